@@ -1,0 +1,1 @@
+// No code: the words that every layer's definitions are written in stand in specs/.
