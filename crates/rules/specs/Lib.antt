@@ -1,0 +1,9 @@
+pub mod Links
+pub mod Removal
+pub mod Forest
+pub mod Search
+pub mod Tables
+pub mod Building
+pub mod Adopting
+pub mod Reading
+pub mod Known

@@ -1,0 +1,42 @@
+-- Links, lists of links, and what it means that two fragments are joined. Definitions only.
+-- Assumes nothing.
+use Prim.Native.Nat.{ℕ, _<_}
+use mathlib.Core.Path.{_≡_}
+use mathlib.Core.Bool.{Bool, true, false, _&&_, _||_}
+use mathlib.Core.List.{List, [], _∷_}
+use mathlib.Core.Logic.{_≢_}
+use lib.Dec.{T, eqb}
+
+-- 'links, each two fragment numbers'
+abbrev pub Link : Type 0
+Link = ℕ × ℕ
+
+-- 'Links have no direction': the link l is the one between u and v.
+unfoldable pub between : Link → ℕ → ℕ → Bool
+between (a, b) u v = (eqb a u && eqb b v) || (eqb a v && eqb b u)
+
+-- A set of links: which two fragments are linked.
+abbrev pub Links : Type 0
+Links = ℕ → ℕ → Bool
+
+-- The set that a list tells. 'A link that stands twice counts as one link.'
+unfoldable pub linked : List Link → Links
+linked [] u v = false
+linked (l ∷ g) u v = between l u v || linked g u v
+
+-- Two lists tell the same set of links, in any order and with any repeats.
+abbrev pub SameSet : List Link → List Link → Type 0
+SameSet g h = (u v : ℕ) → linked g u v ≡ linked h u v
+
+-- 'fragment numbers (0 to n-1)', and no link from a fragment to itself: what the scan of a block lets through.
+abbrev pub Among : ℕ → Links → Type 0
+Among n E = (u v : ℕ) → T (E u v) → (u < n) × (v < n) × (u ≢ v)
+
+-- A chain of links from a to c.
+pub data Joined (R : ℕ → ℕ → Type 0) : ℕ → ℕ → Type 0 where
+  here : {a : ℕ} → Joined R a a
+  step : {a b c : ℕ} → R a b → Joined R b c → Joined R a c
+
+-- Two fragments are joined by the links of a set.
+abbrev pub JoinedBy : Links → ℕ → ℕ → Type 0
+JoinedBy E = Joined (λ (u v : ℕ). T (E u v))
