@@ -6,7 +6,7 @@ use mathlib.Core.List.{List, [], _∷_, _++_, map}
 use lib.ListN.{getD, length}
 use lib.Dec.{ltb, eqb}
 use Rattle.base.specs.Pick.{pick}
-use Rattle.rules.specs.Links.{Link, linked}
+use Rattle.rules.specs.Links.{Link, linked, tally}
 use Rattle.rules.specs.Search.{count, some, every, first, table}
 use Rattle.rules.specs.Tables.{Tables, parentOf, rank, noteOf, markOf, placed, place, putNote, putMark, putHeld, cleared}
 
@@ -37,8 +37,7 @@ sizeOf n l p = count (member l p) n
 
 -- How many held links a piece has.
 unfoldable pub heldIn : List ℕ → List Link → ℕ → ℕ
-heldIn l [] p = 0
-heldIn l ((a, b) ∷ held) p = pick (member l p a) (suc (heldIn l held p)) (heldIn l held p)
+heldIn l held p = tally (λ e. member l p (e .0)) held
 
 -- B2. Of two notes the better: 'if p's level is greater than that of the one noted, or equal with a smaller number, or none is noted'.
 -- A note is one more than the fragment noted, 0 for none.

@@ -7,7 +7,7 @@ use mathlib.Core.List.{List, [], _∷_, _++_, map}
 use lib.ListN.{length}
 use lib.Dec.{ltb}
 use Rattle.base.specs.Pick.{pick}
-use Rattle.rules.specs.Links.{Link, between, linked}
+use Rattle.rules.specs.Links.{Link, between, linked, tally}
 use Rattle.rules.specs.Forest.{up, depth}
 use Rattle.rules.specs.Search.{count, some, every, first, least, table, listed}
 use Rattle.rules.specs.Tables.{Tables, parentOf, rank, noteOf, markOf, placed, par, lev, fresh, place, putNote, putMark, putHeld, putCrossed, cleared}
@@ -82,5 +82,5 @@ instances =
     ∷ []
 
 pub known : map (λ r. resultOf (r .instance)) instances ≡ map (λ r. r .result) instances
-unfolding pick between linked up depth count some every first least table listed parentOf rank noteOf markOf placed par lev fresh place putNote putMark putHeld putCrossed cleared alone merged piecesFrom pieces member sizeOf heldIn better noteLink hold fill holdLink buildLink buildLinks noted topOf hang nextOf reachNext goBack walkStep walkSteps walked placePath lost placeWalk placePiece placeFrom placePieces closeBuilding done pass passes rootedIn adoptable adopted above hear readLink readLinks seen accepted lowest reach childOf soleBelow sole cut rootOf piece solesTo reported run resultOf row square triangle instances
+unfolding pick between linked tally up depth count some every first least table listed parentOf rank noteOf markOf placed par lev fresh place putNote putMark putHeld putCrossed cleared alone merged piecesFrom pieces member sizeOf heldIn better noteLink hold fill holdLink buildLink buildLinks noted topOf hang nextOf reachNext goBack walkStep walkSteps walked placePath lost placeWalk placePiece placeFrom placePieces closeBuilding done pass passes rootedIn adoptable adopted above hear readLink readLinks seen accepted lowest reach childOf soleBelow sole cut rootOf piece solesTo reported run resultOf row square triangle instances
 known = refl

@@ -7,3 +7,4 @@ pub mod Building
 pub mod Adopting
 pub mod Reading
 pub mod Known
+pub mod Laws

@@ -1,8 +1,8 @@
 -- Links, lists of links, and what it means that two fragments are joined. Definitions only.
 -- Assumes nothing.
-use Prim.Native.Nat.{ℕ, _<_}
+use Prim.Native.Nat.{ℕ, suc, _<_}
 use mathlib.Core.Path.{_≡_}
-use mathlib.Core.Bool.{Bool, true, false, _&&_, _||_}
+use mathlib.Core.Bool.{Bool, true, false, cond, _&&_, _||_}
 use mathlib.Core.List.{List, [], _∷_}
 use mathlib.Core.Logic.{_≢_}
 use lib.Dec.{T, eqb}
@@ -23,6 +23,11 @@ Links = ℕ → ℕ → Bool
 unfoldable pub linked : List Link → Links
 linked [] u v = false
 linked (l ∷ g) u v = between l u v || linked g u v
+
+-- How many entries of a list pass a test.
+unfoldable pub tally : (Link → Bool) → List Link → ℕ
+tally p [] = 0
+tally p (l ∷ g) = cond (p l) (suc (tally p g)) (tally p g)
 
 -- Two lists tell the same set of links, in any order and with any repeats.
 abbrev pub SameSet : List Link → List Link → Type 0
