@@ -8,3 +8,4 @@ pub mod Adopting
 pub mod Reading
 pub mod Known
 pub mod Laws
+pub mod Theorems

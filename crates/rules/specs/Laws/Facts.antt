@@ -46,6 +46,12 @@ pub record Holding (n k : ℕ) (t : Tables) : Type 0 where
   pub once : (u v : ℕ) → tally (λ e. between e u v) (t .held) ≤ 1
   pub quota : (v : ℕ) → v < n → suc (heldIn (pieces n (t .held)) (t .held) (getD (pieces n (t .held)) v 0)) ≤ k * sizeOf n (pieces n (t .held)) (getD (pieces n (t .held)) v 0)
 
+-- What holds at every moment of a pass: 'a noted fragment is placed, and only an unplaced one has noted it'.
+pub record Underway (n k : ℕ) (t : Tables) : Type 0 where
+  pub standing : Standing n t
+  pub holding : Holding n k t
+  pub noting : (u p : ℕ) → noteOf t u ≡ suc p → (u < n) × (p < n) × Loose t u × T (placed t p)
+
 -- A marked piece is crowded: some of its members, two or more, have k for each less one held links among themselves.
 pub record Crowded (n k : ℕ) (t : Tables) (m : ℕ) : Type 0 where
   pub crowd : ℕ → Bool

@@ -1,0 +1,88 @@
+-- What follows from the rules of document 01: the theorems that demands 2 and 3 rest on, to be read alone. Behind each stands the instance of
+-- P1 to P10 that meets its premises.
+-- Assumes nothing.
+use Prim.Native.Nat.{ℕ, suc, _+_, _-_, _*_, _/_, _≤_, _<_}
+use mathlib.Core.Path.{_≡_}
+use mathlib.Core.Bool.{not, _&&_}
+use mathlib.Core.List.{List, [], _∷_, _++_}
+use mathlib.Core.Logic.{_↔_}
+use lib.ListN.{length, getD}
+use lib.Dec.{T}
+use Rattle.rules.specs.Links.{Link, Links, between, linked, tally, Among, SameSet}
+use Rattle.rules.specs.Removal.{Sole, Cut, Piece}
+use Rattle.rules.specs.Forest.{DepthFirst}
+use Rattle.rules.specs.Search.{count}
+use Rattle.rules.specs.Tables.{Tables, markOf, placed, par, fresh, cleared}
+use Rattle.rules.specs.Building.{pieces, member, sizeOf, heldIn, walked, buildLinks, done, pass, passes}
+use Rattle.rules.specs.Reading.{readLinks, accepted, sole, cut, piece}
+use Rattle.rules.specs.Laws.Facts.{Standing, Rested, Loose, Holding, Underway, Ready, Walked}
+use Rattle.rules.specs.Laws.Partial.{Partial, Tells, Each}
+use Rattle.rules.specs.Laws.Walk.{walk}
+use Rattle.rules.specs.Laws.Step.{list-kept}
+use Rattle.rules.specs.Laws.Quota.{held-most}
+use Rattle.rules.specs.Laws.Passes.{fresh-partial, pass-keeps, pass-grows, pass-finishes, result}
+use Rattle.rules.specs.Laws.Ceiling.{unfinished-places, ceiling, ceiling-more}
+use Rattle.rules.specs.Laws.Reports.{SameReports, reading-exact, sole-exact, cut-exact, piece-exact, equal-reports}
+
+-- 1. Every pass keeps the invariant: what stands is part of a depth-first forest of the set, and each unplaced part hangs on one way to the root
+-- (record Partial). It is kept by a pass that tells the set in any order and with any repeats,
+pub every-pass-keeps : (n k : ℕ) (E : Links) (t : Tables) (g : List Link) → 1 ≤ k → Among n E → Tells E g → Partial n E t → Rested n t → Partial n E (pass n k t g) × Rested n (pass n k t g)
+every-pass-keeps n k E t g pos among tells P R = pass-keeps pos among P R g tells
+
+-- it holds at the start, of every set,
+pub start-keeps : (n : ℕ) (E : Links) → Partial n E (fresh n)
+start-keeps = fresh-partial
+
+-- every pass places at least one fragment more, whatever it was told,
+pub every-pass-grows : (n k : ℕ) (t : Tables) (g : List Link) → 1 ≤ k → Standing n t → Rested n t → Among n (linked g) → (v : ℕ) → v < n → Loose t v → count (placed t) n < count (placed (pass n k t g)) n
+every-pass-grows n k t g pos S R among = pass-grows pos S R g among
+
+-- and a pass that loses nothing places everything. (P1's first pass loses something, its second and P2's only one nothing.)
+pub nothing-lost-finishes : (n k : ℕ) (t : Tables) (g : List Link) → 1 ≤ k → Standing n t → Rested n t → Among n (linked g) → ((v : ℕ) → v < n → markOf (buildLinks n k t g) v ≡ 0) → T (done n (pass n k t g))
+nothing-lost-finishes n k t g pos S R among = pass-finishes pos S R g among
+
+-- 2. The walk is depth-first: every held link of a piece joins a walked fragment and one above it (Walked.spans), and the walk reaches the whole
+-- piece (Walked.reached). (P2: Laws.Met.met-walk.)
+pub walk-depth-first : (n top : ℕ) (t : Tables) → Ready n top t → Walked n top t (walked n top t .tables) (walked n top t .deepest)
+walk-depth-first = walk
+
+-- 3. The result: where every pass told the same set, what stands when nothing is unplaced is a depth-first forest of it. (P1: Laws.Met.met-result.)
+pub finished-forest : (n k : ℕ) (E : Links) (gs : List (List Link)) → 1 ≤ k → Among n E → Each (Tells E) gs → T (done n (passes n k (fresh n) gs)) → DepthFirst n (par (passes n k (fresh n) gs)) E
+finished-forest n k E gs pos among = result pos among gs
+
+-- 4. The ceiling: an unfinished pass places more than k fragments, whatever list it was told; (P1's first pass: Laws.Met.met-unfinished.)
+pub unfinished-pass-places : (n k : ℕ) (t : Tables) (g : List Link) → 1 ≤ k → Standing n t → Rested n t → Among n (linked g) → (T (done n (pass n k t g)) → ⊥) → count (placed t) n + suc k ≤ count (placed (pass n k t g)) n
+unfinished-pass-places n k t g pos S R among = unfinished-places pos S R g among
+
+-- hence at most n/k passes, rounded up, and even n/(k + 1): passes gs that left something unplaced, and one more. (P1: Laws.Met.met-ceiling, met-most.)
+pub passes-within : (n k : ℕ) (gs : List (List Link)) (g : List Link) → 1 ≤ k → Each (λ h. Among n (linked h)) gs → (T (done n (passes n k (fresh n) gs)) → ⊥) → (length (gs ++ (g ∷ [])) ≤ (n + k - 1) / k) × (length (gs ++ (g ∷ [])) ≤ (n + k) / (k + 1))
+passes-within n k gs g pos among left = (ceiling n k pos gs among left g, ceiling-more n k pos gs among left g)
+
+-- 5. Reading: the reading rules accept exactly the lists of which the table is a depth-first forest, for every table of parents, adopted ones too.
+-- (P1's parents: Laws.MetReading; P8 and P9 are refused.)
+pub reading-accepts : (n : ℕ) (t : Tables) (g : List Link) → Standing n t → Among n (linked g) → T (accepted n (readLinks (cleared n t) g)) ↔ DepthFirst n (par t) (linked g)
+reading-accepts n t g S among = reading-exact S g among
+
+-- 6. Removal: where reading accepts, sole, cut and piece are those by removal on the list read, both ways. (P1: Laws.MetReading.met-sole, met-cut.)
+module _ (n : ℕ) (t : Tables) (g : List Link) (S : Standing n t) (among : Among n (linked g)) (read : T (accepted n (readLinks (cleared n t) g))) where
+  pub sole-by-removal : (a b : ℕ) → a < n → b < n → T (sole n (readLinks (cleared n t) g) a b) ↔ Sole g a b
+  sole-by-removal = sole-exact S g among read
+
+  pub cut-by-removal : (v : ℕ) → v < n → T (cut n (readLinks (cleared n t) g) v) ↔ Cut g v
+  cut-by-removal = cut-exact S g among read
+
+  pub piece-by-removal : (v : ℕ) → v < n → Piece g v (piece n (readLinks (cleared n t) g) v)
+  piece-by-removal = piece-exact S g among read
+
+-- 7. Equal reports: two tables that accept lists telling the same set answer piece, sole and cut alike. (Two forests of P1's links:
+-- Laws.MetReading.met-equal.) That an accepted reading is true of the list it read, whatever the passes told, is 6: it asks nothing of the passes.
+pub reports-equal : (n : ℕ) (s t : Tables) (g h : List Link) → Standing n s → Standing n t → Among n (linked g) → SameSet g h → T (accepted n (readLinks (cleared n s) g)) → T (accepted n (readLinks (cleared n t) h)) → SameReports n (readLinks (cleared n s) g) (readLinks (cleared n t) h)
+reports-equal n s t g h S Z among same = equal-reports S Z g h among same
+
+-- 8. Held links: none twice and at most k·s - 1 in a piece of s, at every moment of a pass (record Underway, with Holding in it, is kept by every link told),
+pub held-links-kept : (n k : ℕ) (t : Tables) (g : List Link) → Among n (linked g) → Underway n k t → Underway n k (buildLinks n k t g)
+held-links-kept n k t g among U = list-kept g among U
+
+-- so at most k·n less the number of pieces, counted among the unplaced fragments.
+pub held-links-most : (n k : ℕ) (t : Tables) → Holding n k t → length (t .held) + count (λ v. not (placed t v) && member (pieces n (t .held)) v v) n ≤ k * count (λ v. not (placed t v)) n
+held-links-most = held-most
