@@ -22,6 +22,7 @@ pub mod Noted
 pub mod Unfinished
 pub mod Close
 pub mod Closed
+pub mod CloseAny
 pub mod Passes
 pub mod Met
 pub mod Removal

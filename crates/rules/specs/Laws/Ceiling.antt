@@ -43,7 +43,7 @@ one-more : {A : Type 0} (l : List A) (x : A) → length (l ++ (x ∷ [])) ≡ su
 one-more l x = length-append l (x ∷ []) ∙ add-one (length l)
 
 -- One fragment fails a test that not every one passes.
-every-fails : (p : ℕ → Bool) (n : ℕ) → (T (every p n) → ⊥) → (v : ℕ) × (v < n) × (T (p v) → ⊥)
+pub every-fails : (p : ℕ → Bool) (n : ℕ) → (T (every p n) → ⊥) → (v : ℕ) × (v < n) × (T (p v) → ⊥)
 unfolding every
 every-fails p zero d = absurd (d tt)
 every-fails p (suc n) d = elim (T-dec (p n)) [

@@ -15,7 +15,7 @@ use Rattle.rules.specs.Links.{Link, Links, linked, Among, JoinedBy, here
 use Rattle.rules.specs.Search.{some}
 use Rattle.rules.specs.Tables.{Tables, parentOf, rank, noteOf, markOf, placed, par, lev}
 use Rattle.rules.specs.Building.{Walk, pieces, member, lost, noted, topOf, hang, walked, placePath, placeWalk, placePiece, placeFrom, placePieces}
-use Rattle.rules.specs.Laws.Facts.{Levels, Over, Standing, Loose, Told, Ready, Walked}
+use Rattle.rules.specs.Laws.Facts.{Levels, Over, Standing, Loose, Learnt, Ready, Walked}
 use Rattle.rules.specs.Laws.Chain.{carry}
 use Rattle.rules.specs.Laws.Up.{over-par, over-meet}
 use Rattle.rules.specs.Laws.Tables.{placed-rank, rank-placed, placed-loose, placed-or-loose, par-placed, same-noteOf, parentOf-place-same, standing-levels}
@@ -122,7 +122,7 @@ unfolding lost markOf
 lost-same n s t l p e = ap (λ (x : List ℕ). some (λ v. member l p v && ltb 0 (getD x v 0)) n) e
 
 -- The pieces of told tables.
-module _ {n k : ℕ} {E : Links} {t₀ t : Tables} (S : Standing n t) (D : Told n k E t₀ t) where
+module _ {n k : ℕ} {E : Links} {t : Tables} (S : Standing n t) (D : Learnt n k E t) where
   among-held : Among n (linked (t .held))
   among-held u v h = let (a, b, c, _, _) = D .holding .ends u v h in (a, b, c)
 
@@ -148,8 +148,9 @@ module _ {n k : ℕ} {E : Links} {t₀ t : Tables} (S : Standing n t) (D : Told 
   closes : {m : ℕ} {s s′ : Tables} → m < n → Closing n E t m s → (Of n t m m → Loose t m → ⊥) ⊎ Treated n E t s′ m
       → Standing n s′ → s′ .note ≡ s .note → s′ .mark ≡ s .mark → s′ .held ≡ s .held → s′ .crossed ≡ s .crossed
       → ((v : ℕ) → v < n → (label n t v ≢ m) ⊎ T (placed t v) → (parentOf s′ v ≡ parentOf s v) × (rank s′ v ≡ rank s v))
+      → ((v : ℕ) → Loose s′ v → parentOf s′ v ≡ parentOf s v)
       → Closing n E t (suc m) s′
-  closes {m} {s} {s′} hm C R S′ en em eh ec off = record {
+  closes {m} {s} {s′} hm C R S′ en em eh ec off free = record {
     standing = S′;
     same-note = en ∙ C .same-note;
     same-mark = em ∙ C .same-mark;
@@ -161,6 +162,7 @@ module _ {n k : ℕ} {E : Links} {t₀ t : Tables} (S : Standing n t) (D : Told 
     };
     rest-parent = λ v h g. off v h (inl (λ e. omega arith)) .0 ∙ C .rest-parent v h (omega arith);
     rest-rank = λ v h g. off v h (inl (λ e. omega arith)) .1 ∙ C .rest-rank v h (omega arith);
+    loose-parent = λ v f. free v f ∙ C .loose-parent v (not-placed s v (λ p. placed-loose s′ v (kept-placed keeps v p) f));
     treated = λ p h e f. elim (ℕ-discrete p m) [
       | yes q ↦ rw q (elim R [ inl f′ ↦ absurd (f′ (hm, rw q at e) (rw q at f)) | inr r ↦ r ])
       | no q ↦ treated-kept (C .standing) keeps (λ v o. off v (o .0) (inl (λ g. omega (arith, o .1))) .1) (C .treated p (omega arith) e f)
@@ -289,6 +291,8 @@ module _ {n k : ℕ} {E : Links} {t₀ t : Tables} (S : Standing n t) (D : Told 
           walked-at .outside-parent v (λ r. outside v d (reached-of v r)) ∙ hung-at .other-parent v (not-top v d),
           walked-at .outside-rank v (λ r. outside v d (reached-of v r)) ∙ hung-at .other-rank v (not-top v d),
         ))
+        (λ v f. walked-at .outside-parent v (λ r. placed-loose w v (walked-at .reached v r) f)
+        ∙ hung-at .other-parent v (λ e. placed-loose w v (rw e (walked-at .reached (topAt n t m s) here)) f))
       where
         not-top : (v : ℕ) → (label n t v ≢ m) ⊎ T (placed t v) → v ≢ topAt n t m s
         not-top v d e = outside v d (rw e top-of)
@@ -314,6 +318,7 @@ module _ {n k : ℕ} {E : Links} {t₀ t : Tables} (S : Standing n t) (D : Told 
         (path-at .standing)
         (path-at .same-note) (path-at .same-mark) (path-at .same-held) (path-at .same-crossed)
         (λ v h d. (path-at .off-parent v (off-path v d), path-at .off-rank v (off-path v d)))
+        (λ v f. path-at .off-parent v (λ r. placed-loose (pathAt n t m s) v (path-at .on-placed v r) f))
       where
         off-path : (v : ℕ) → (label n t v ≢ m) ⊎ T (placed t v) → OnPath (topAt n t m s) s (walkAt n t m s .tables) (walkAt n t m s .deepest) v → ⊥
         off-path v d r = outside v d (joined-of top-of (joined-by (C .same-held) (r .0)))
@@ -335,7 +340,7 @@ module _ {n k : ℕ} {E : Links} {t₀ t : Tables} (S : Standing n t) (D : Told 
             let f : Loose s m = not-placed s m (T-not (placed s m) (and-l (not (placed s m)) _ c)) in
             rw (T-true test c) (piece-closes C (h, e) (sym (C .rest-rank m h (omega arith)) ∙ f))
         | no c ↦ rw (T-false test c) (closes h C (inl (λ o f. c (and-intro (not (placed s m)) (member (pieces n (t .held)) m m)
-            (not-T (placed s m) (λ p. placed-loose s m p (C .rest-rank m h (omega (arith, o .1)) ∙ f))) (member-intro (pieces n (t .held)) m m (o .1))))) (C .standing) refl refl refl refl (λ v g d. (refl, refl)))
+            (not-T (placed s m) (λ p. placed-loose s m p (C .rest-rank m h (omega (arith, o .1)) ∙ f))) (member-intro (pieces n (t .held)) m m (o .1))))) (C .standing) refl refl refl refl (λ v g d. (refl, refl)) (λ v g. refl))
       ]
 
   closing-none : Closing n E t 0 t
@@ -348,6 +353,7 @@ module _ {n k : ℕ} {E : Links} {t₀ t : Tables} (S : Standing n t) (D : Told 
     kept = kept-refl t;
     rest-parent = λ v h g. refl;
     rest-rank = λ v h g. refl;
+    loose-parent = λ v f. refl;
     treated = λ p h e f. absurd (omega arith);
   }
 

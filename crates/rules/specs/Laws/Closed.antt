@@ -14,7 +14,7 @@ use Rattle.rules.specs.Forest.{up, DepthFirst}
 use Rattle.rules.specs.Search.{count}
 use Rattle.rules.specs.Tables.{Tables, rank, placed, par, lev}
 use Rattle.rules.specs.Building.{pieces, lost, done}
-use Rattle.rules.specs.Laws.Facts.{Over, Standing, Loose, Told}
+use Rattle.rules.specs.Laws.Facts.{Over, Standing, Loose, Learnt}
 use Rattle.rules.specs.Laws.Chain.{carry, wider}
 use Rattle.rules.specs.Laws.Search.{every-at, count-mono, count-yes, count-no}
 use Rattle.rules.specs.Laws.Up.{par-in, up-in, up-lev, root-par, over-refl, over-lev, over-same, over-trans}
@@ -40,7 +40,7 @@ count-more p q (suc n) v h a b f = elim (ℕ-discrete v n) [
 ]
 
 -- All pieces of the told tables t are treated in s.
-module _ {n k : ℕ} {E : Links} {t₀ t s : Tables} (S : Standing n t) (D : Told n k E t₀ t) (C : Closing n E t n s) where
+module _ {n k : ℕ} {E : Links} {t s : Tables} (S : Standing n t) (D : Learnt n k E t) (C : Closing n E t n s) where
   -- What became of an unplaced fragment's piece.
   treated-of : {p v : ℕ} → Of n t p v → Loose t v → Treated n E t s p
   treated-of {p} {v} (h, e) f =

@@ -59,13 +59,8 @@ pub record Crowded (n k : ℕ) (t : Tables) (m : ℕ) : Type 0 where
   pub two : 2 ≤ count crowd n
   pub full : k * count crowd n ≤ suc (tally (λ e. crowd (e .0) && crowd (e .1)) (t .held))
 
--- What the links of a set leave, told from a rested state t₀ in any order and with any repeats.
-pub record Told (n k : ℕ) (E : Links) (t₀ t : Tables) : Type 0 where
-  pub same-parent : t .parent ≡ t₀ .parent
-  pub same-level : t .level ≡ t₀ .level
-  pub same-crossed : t .crossed ≡ t₀ .crossed
-  pub long-note : length (t .note) ≡ n
-  pub long-mark : length (t .mark) ≡ n
+-- What tables hold of a set of links: the notes and the held links that tell it, whatever is marked.
+pub record Learnt (n k : ℕ) (E : Links) (t : Tables) : Type 0 where
   -- a note is of a placed fragment linked to an unplaced one
   pub note-of : (u p : ℕ) → noteOf t u ≡ suc p → (u < n) × (p < n) × Loose t u × T (placed t p) × T (E u p)
   -- and no other such fragment is deeper
@@ -75,6 +70,15 @@ pub record Told (n k : ℕ) (E : Links) (t₀ t : Tables) : Type 0 where
   -- a told link between unplaced fragments lies in one piece, and is held unless the piece is marked
   pub told-joined : (u v : ℕ) → T (E u v) → Loose t u → Loose t v → JoinedBy (linked (t .held)) u v
   pub told-held : (u v : ℕ) → T (E u v) → Loose t u → Loose t v → T (linked (t .held) u v) ⊎ T (lost n t (pieces n (t .held)) (getD (pieces n (t .held)) u 0))
+
+-- What the links of a set leave, told from a rested state t₀ in any order and with any repeats.
+pub record Told (n k : ℕ) (E : Links) (t₀ t : Tables) : Type 0 where
+  pub same-parent : t .parent ≡ t₀ .parent
+  pub same-level : t .level ≡ t₀ .level
+  pub same-crossed : t .crossed ≡ t₀ .crossed
+  pub long-note : length (t .note) ≡ n
+  pub long-mark : length (t .mark) ≡ n
+  pub learnt : Learnt n k E t
   pub crowded : (m : ℕ) → m < n → 0 < markOf t m → Crowded n k t m
 
 -- Where a walk may begin: its top is placed, everything else that held links join with the top is not.

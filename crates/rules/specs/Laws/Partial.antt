@@ -83,4 +83,5 @@ pub record Closing (n : ℕ) (E : Links) (t : Tables) (m : ℕ) (s : Tables) : T
   pub kept : Kept t s
   pub rest-parent : (v : ℕ) → v < n → m ≤ label n t v → parentOf s v ≡ parentOf t v
   pub rest-rank : (v : ℕ) → v < n → m ≤ label n t v → rank s v ≡ rank t v
+  pub loose-parent : (v : ℕ) → Loose s v → parentOf s v ≡ parentOf t v
   pub treated : (p : ℕ) → p < m → label n t p ≡ p → Loose t p → Treated n E t s p

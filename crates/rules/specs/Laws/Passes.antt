@@ -60,7 +60,7 @@ module _ {n k : ℕ} (pos : 1 ≤ k) where
     told-stands = standing-same told-forest (was-told .long-note) (was-told .long-mark) S
 
     pub was-closed : Closing n (linked g) (buildLinks n k t g) n (placePieces n (pieces n (buildLinks n k t g .held)) n (buildLinks n k t g))
-    was-closed = closing told-stands was-told n (omega arith)
+    was-closed = closing told-stands (was-told .learnt) n (omega arith)
 
     pub pass-forest : SameForest (pass n k t g) (placePieces n (pieces n (buildLinks n k t g .held)) n (buildLinks n k t g))
     unfolding pass closeBuilding
@@ -83,11 +83,11 @@ module _ {n k : ℕ} (pos : 1 ≤ k) where
 
     -- A pass that begins with something unplaced places at least one fragment.
     pub pass-grows : (v : ℕ) → v < n → Loose t v → count (placed t) n < count (placed (pass n k t g)) n
-    pass-grows v h f = rw (same-placed pass-forest, ← same-placed told-forest) (close-grows told-stands was-told was-closed v h (same-rank told-forest v ∙ f))
+    pass-grows v h f = rw (same-placed pass-forest, ← same-placed told-forest) (close-grows told-stands (was-told .learnt) was-closed v h (same-rank told-forest v ∙ f))
 
     -- What a pass leaves unplaced lies in a lost piece.
     pub unplaced-lost : (v : ℕ) → v < n → Loose (pass n k t g) v → T (lost n (buildLinks n k t g) (pieces n (buildLinks n k t g .held)) (label n (buildLinks n k t g) v))
-    unplaced-lost v h f = left-lost told-stands was-told was-closed v h (sym (same-rank pass-forest v) ∙ f)
+    unplaced-lost v h f = left-lost told-stands (was-told .learnt) was-closed v h (sym (same-rank pass-forest v) ∙ f)
 
     -- A pass that loses nothing places everything.
     pub pass-finishes : ((v : ℕ) → v < n → markOf (buildLinks n k t g) v ≡ 0) → T (done n (pass n k t g))
@@ -101,7 +101,7 @@ module _ {n k : ℕ} (pos : 1 ≤ k) where
 
     -- The invariant of the set that is told is kept.
     told-keeps : Partial n (linked g) t → Partial n (linked g) (pass n k t g)
-    told-keeps P = partial-same pass-forest pass-stands (close-keeps told-stands was-told was-closed among (linked-turn g) (partial-same told-forest told-stands P))
+    told-keeps P = partial-same pass-forest pass-stands (close-keeps told-stands (was-told .learnt) was-closed among (linked-turn g) (partial-same told-forest told-stands P))
 
   -- A pass that tells the set keeps its invariant.
   module _ {E : Links} (among : Among n E) where

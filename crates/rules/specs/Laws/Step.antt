@@ -203,13 +203,16 @@ list-kept {n} {k} {t} ((a, b) ∷ g) A U =
     let i : (a < n) × (b < n) × (a ≢ b) = A a b (linked-head (a, b) g a b (between-here a b)) in
     list-kept g (λ u v s. A u v (linked-tail (a, b) g u v s)) (building-kept (i .0) (i .1) (i .2) U)
 
--- Where a pass begins.
-pub rested-holding : (n k : ℕ) (t : Tables) → 1 ≤ k → Rested n t → Holding n k t
-rested-holding n k t h R = record {
-  ends = λ u v s. absurd (linked-nil u v (rw (R .no-held) at s));
-  once = λ u v. rw (R .no-held) (omega (arith, tally-nil (λ e. between e u v)));
-  quota = λ v i. rw (R .no-held) (quota-nil n k h v i);
+-- Where nothing is held, and so where a pass begins.
+pub none-holding : (n k : ℕ) (t : Tables) → 1 ≤ k → t .held ≡ [] → Holding n k t
+none-holding n k t h e = record {
+  ends = λ u v s. absurd (linked-nil u v (rw e at s));
+  once = λ u v. rw e (omega (arith, tally-nil (λ e. between e u v)));
+  quota = λ v i. rw e (quota-nil n k h v i);
 }
+
+pub rested-holding : (n k : ℕ) (t : Tables) → 1 ≤ k → Rested n t → Holding n k t
+rested-holding n k t h R = none-holding n k t h (R .no-held)
 
 pub rested-underway : (n k : ℕ) (t : Tables) → 1 ≤ k → Standing n t → Rested n t → Underway n k t
 rested-underway n k t h S R = record { standing = S; holding = rested-holding n k t h R; noting = λ u p e. absurd (omega (arith, rested-note R u)) }

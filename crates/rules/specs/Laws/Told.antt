@@ -49,7 +49,7 @@ grown-snoc g a b = record { old = append-left g ((a, b) ∷ []); new = snoc-last
 -- The link a - b is told in a state that the links of E left: what each of its ways leaves.
 module _ {n k a b : ℕ} {E E′ : Links} {t₀ t : Tables} (G : Grown E E′ a b) (I : Told n k E t₀ t) (ha : a < n) (hb : b < n) (d : a ≢ b) where
   inside : Inside n (t .held)
-  inside u v s = (I .holding .ends u v s .0, I .holding .ends u v s .1)
+  inside u v s = (I .learnt .holding .ends u v s .0, I .learnt .holding .ends u v s .1)
 
   -- Passed over: it is held, or it is no concern of an unplaced fragment.
   told-skips : (T (placed t a) × T (placed t b)) ⊎ T (linked (t .held) a b) → Told n k E′ t₀ t
@@ -59,30 +59,32 @@ module _ {n k a b : ℕ} {E E′ : Links} {t₀ t : Tables} (G : Grown E E′ a 
     same-crossed = I .same-crossed;
     long-note = I .long-note;
     long-mark = I .long-mark;
-    note-of = λ u p e. let (i, j, l, q, s) = I .note-of u p e in (i, j, l, q, G .old u p s);
-    note-best = λ u p s l q. elim (G .only u p s) [
-      | inl r ↦ I .note-best u p r l q
-      | inr r ↦ elim (both u p r) [
-        | inl (x, y) ↦ absurd (placed-loose t u x l)
-        | inr x ↦ absurd (placed-loose t p q (I .holding .ends u p x .4))
-      ]
-    ];
-    holding = I .holding;
-    held-told = λ u v s. G .old u v (I .held-told u v s);
-    told-joined = λ u v s l m. elim (G .only u v s) [
-      | inl r ↦ I .told-joined u v r l m
-      | inr r ↦ elim (both u v r) [
-        | inl (x, y) ↦ absurd (placed-loose t u x l)
-        | inr x ↦ one x
-      ]
-    ];
-    told-held = λ u v s l m. elim (G .only u v s) [
-      | inl r ↦ I .told-held u v r l m
-      | inr r ↦ elim (both u v r) [
-        | inl (x, y) ↦ absurd (placed-loose t u x l)
-        | inr x ↦ inl x
-      ]
-    ];
+    learnt = record {
+      note-of = λ u p e. let (i, j, l, q, s) = I .learnt .note-of u p e in (i, j, l, q, G .old u p s);
+      note-best = λ u p s l q. elim (G .only u p s) [
+        | inl r ↦ I .learnt .note-best u p r l q
+        | inr r ↦ elim (both u p r) [
+          | inl (x, y) ↦ absurd (placed-loose t u x l)
+          | inr x ↦ absurd (placed-loose t p q (I .learnt .holding .ends u p x .4))
+        ]
+      ];
+      holding = I .learnt .holding;
+      held-told = λ u v s. G .old u v (I .learnt .held-told u v s);
+      told-joined = λ u v s l m. elim (G .only u v s) [
+        | inl r ↦ I .learnt .told-joined u v r l m
+        | inr r ↦ elim (both u v r) [
+          | inl (x, y) ↦ absurd (placed-loose t u x l)
+          | inr x ↦ one x
+        ]
+      ];
+      told-held = λ u v s l m. elim (G .only u v s) [
+        | inl r ↦ I .learnt .told-held u v r l m
+        | inr r ↦ elim (both u v r) [
+          | inl (x, y) ↦ absurd (placed-loose t u x l)
+          | inr x ↦ inl x
+        ]
+      ];
+    };
     crowded = I .crowded;
   }
     where
@@ -115,12 +117,12 @@ module _ {n k a b : ℕ} {E E′ : Links} {t₀ t : Tables} (G : Grown E E′ a 
             x,
             rw e f,
             elim (G .only v r w) [
-              | inl y ↦ let (z, i, j) = I .note-best v r y m o in omega (arith, B .over-old z (ap (noteOf t) (sym e) ∙ i), j)
+              | inl y ↦ let (z, i, j) = I .learnt .note-best v r y m o in omega (arith, B .over-old z (ap (noteOf t) (sym e) ∙ i), j)
               | inr y ↦ rw (← only-up v r y m .1) (B .over-new)
             ],
           )
       | no e ↦ elim (G .only v r w) [
-        | inl y ↦ let (z, i, j) = I .note-best v r y m o in (z, note-other u p t u-long v e ∙ i, j)
+        | inl y ↦ let (z, i, j) = I .learnt .note-best v r y m o in (z, note-other u p t u-long v e ∙ i, j)
         | inr y ↦ absurd (e (sym (only-up v r y m .0)))
       ]
     ]
@@ -133,21 +135,23 @@ module _ {n k a b : ℕ} {E E′ : Links} {t₀ t : Tables} (G : Grown E E′ a 
       same-crossed = I .same-crossed;
       long-note = length-set (t .note) u _ ∙ I .long-note;
       long-mark = I .long-mark;
-      note-of = λ v r e. elim (note-cases u p t u-long v r e) [
-        | inl f ↦ let (i, j, m, o, w) = I .note-of v r f in (i, j, m, o, G .old v r w)
-        | inr (e, f) ↦ rw (← e, ← f) (u-in .0, u-in .1, l, q, G .new u p s)
-      ];
-      note-best = best-up;
-      holding = holding-step ha hb d (I .holding) (notes u p s l q);
-      held-told = λ v w x. G .old v w (I .held-told v w x);
-      told-joined = λ v w x m o. elim (G .only v w x) [
-        | inl y ↦ I .told-joined v w y m o
-        | inr y ↦ absurd (never v w y m o)
-      ];
-      told-held = λ v w x m o. elim (G .only v w x) [
-        | inl y ↦ I .told-held v w y m o
-        | inr y ↦ absurd (never v w y m o)
-      ];
+      learnt = record {
+        note-of = λ v r e. elim (note-cases u p t u-long v r e) [
+          | inl f ↦ let (i, j, m, o, w) = I .learnt .note-of v r f in (i, j, m, o, G .old v r w)
+          | inr (e, f) ↦ rw (← e, ← f) (u-in .0, u-in .1, l, q, G .new u p s)
+        ];
+        note-best = best-up;
+        holding = holding-step ha hb d (I .learnt .holding) (notes u p s l q);
+        held-told = λ v w x. G .old v w (I .learnt .held-told v w x);
+        told-joined = λ v w x m o. elim (G .only v w x) [
+          | inl y ↦ I .learnt .told-joined v w y m o
+          | inr y ↦ absurd (never v w y m o)
+        ];
+        told-held = λ v w x m o. elim (G .only v w x) [
+          | inl y ↦ I .learnt .told-held v w y m o
+          | inr y ↦ absurd (never v w y m o)
+        ];
+      };
       crowded = λ m i j. let C = I .crowded m i j in record { crowd = C .crowd; inside = C .inside; two = C .two; full = C .full };
     }
 
@@ -187,27 +191,29 @@ module _ {n k a b : ℕ} {E E′ : Links} {t₀ t : Tables} (G : Grown E E′ a 
       same-crossed = I .same-crossed;
       long-note = I .long-note;
       long-mark = I .long-mark;
-      note-of = λ u p e. let (i, j, l, q, s) = I .note-of u p e in (i, j, l, q, G .old u p s);
-      note-best = λ u p s l q. elim (G .only u p s) [
-        | inl r ↦ I .note-best u p r l q
-        | inr r ↦ absurd (placed-loose t p q (both-loose u p r .1))
-      ];
-      holding = H;
-      held-told = λ u v s. elim (snoc-cases (t .held) (min a b, max a b) u v s) [
-        | inl r ↦ G .old u v (I .held-told u v r)
-        | inr r ↦ G .new u v (new-held u v r)
-      ];
-      told-joined = λ u v s l m. elim (G .only u v s) [
-        | inl r ↦ wider (append-left (t .held) _) (I .told-joined u v r l m)
-        | inr r ↦ one (held-new u v r)
-      ];
-      told-held = λ u v s l m. elim (G .only u v s) [
-        | inl r ↦ elim (I .told-held u v r l m) [
-          | inl x ↦ inl (append-left (t .held) _ u v x)
-          | inr x ↦ inr (lost-holds u x)
-        ]
-        | inr r ↦ inl (held-new u v r)
-      ];
+      learnt = record {
+        note-of = λ u p e. let (i, j, l, q, s) = I .learnt .note-of u p e in (i, j, l, q, G .old u p s);
+        note-best = λ u p s l q. elim (G .only u p s) [
+          | inl r ↦ I .learnt .note-best u p r l q
+          | inr r ↦ absurd (placed-loose t p q (both-loose u p r .1))
+        ];
+        holding = H;
+        held-told = λ u v s. elim (snoc-cases (t .held) (min a b, max a b) u v s) [
+          | inl r ↦ G .old u v (I .learnt .held-told u v r)
+          | inr r ↦ G .new u v (new-held u v r)
+        ];
+        told-joined = λ u v s l m. elim (G .only u v s) [
+          | inl r ↦ wider (append-left (t .held) _) (I .learnt .told-joined u v r l m)
+          | inr r ↦ one (held-new u v r)
+        ];
+        told-held = λ u v s l m. elim (G .only u v s) [
+          | inl r ↦ elim (I .learnt .told-held u v r l m) [
+            | inl x ↦ inl (append-left (t .held) _ u v x)
+            | inr x ↦ inr (lost-holds u x)
+          ]
+          | inr r ↦ inl (held-new u v r)
+        ];
+      };
       crowded = λ m i j. crowded-holds m (I .crowded m i j);
     }
 
@@ -291,31 +297,33 @@ module _ {n k a b : ℕ} {E E′ : Links} {t₀ t : Tables} (G : Grown E E′ a 
         same-crossed = I .same-crossed;
         long-note = I .long-note;
         long-mark = length-set (t .mark) top 1 ∙ I .long-mark;
-        note-of = λ u p e. let (i, j, l, q, s) = I .note-of u p e in (i, j, l, q, G .old u p s);
-        note-best = λ u p s l q. elim (G .only u p s) [
-          | inl r ↦ I .note-best u p r l q
-          | inr r ↦ absurd (placed-loose t p q (both-loose u p r .1))
-        ];
-        holding = holding-step ha hb d (I .holding) (marks la lb same full);
-        held-told = λ u v s. G .old u v (I .held-told u v s);
-        told-joined = λ u v s l m. elim (G .only u v s) [
-          | inl r ↦ I .told-joined u v r l m
-          | inr r ↦ by-between (JoinedBy (linked (t .held))) (λ x y c. joined-turn (t .held) c) a b u v r (label-joins n (t .held) inside a b ha hb same)
-        ];
-        told-held = λ u v s l m. elim (G .only u v s) [
-          | inl r ↦ elim (I .told-held u v r l m) [
-            | inl x ↦ inl x
-            | inr x ↦ inr (lost-more _ x)
-          ]
-          | inr r ↦ inr (rw (new-member u v r) top-lost)
-        ];
+        learnt = record {
+          note-of = λ u p e. let (i, j, l, q, s) = I .learnt .note-of u p e in (i, j, l, q, G .old u p s);
+          note-best = λ u p s l q. elim (G .only u p s) [
+            | inl r ↦ I .learnt .note-best u p r l q
+            | inr r ↦ absurd (placed-loose t p q (both-loose u p r .1))
+          ];
+          holding = holding-step ha hb d (I .learnt .holding) (marks la lb same full);
+          held-told = λ u v s. G .old u v (I .learnt .held-told u v s);
+          told-joined = λ u v s l m. elim (G .only u v s) [
+            | inl r ↦ I .learnt .told-joined u v r l m
+            | inr r ↦ by-between (JoinedBy (linked (t .held))) (λ x y c. joined-turn (t .held) c) a b u v r (label-joins n (t .held) inside a b ha hb same)
+          ];
+          told-held = λ u v s l m. elim (G .only u v s) [
+            | inl r ↦ elim (I .learnt .told-held u v r l m) [
+              | inl x ↦ inl x
+              | inr x ↦ inr (lost-more _ x)
+            ]
+            | inr r ↦ inr (rw (new-member u v r) top-lost)
+          ];
+        };
         crowded = crowded-marks;
       }
 
   told-step : {t′ : Tables} → Step n k a b t t′ → Told n k E′ t₀ t′
   told-step (skips why) = told-skips why
   told-step (notes u p s l q) = told-notes u p s l q
-  told-step (holds la lb not r) = told-holds la lb (holding-step ha hb d (I .holding) (holds la lb not r))
+  told-step (holds la lb not r) = told-holds la lb (holding-step ha hb d (I .learnt .holding) (holds la lb not r))
   told-step (marks la lb same full) = told-marks la lb same full
 
 -- A list told after another.
@@ -337,12 +345,14 @@ told-nothing n k t h S R = record {
   same-crossed = refl;
   long-note = S .long-note;
   long-mark = S .long-mark;
-  note-of = λ u p e. absurd (omega (arith, rested-note R u));
-  note-best = λ u p s. absurd (linked-nil u p s);
-  holding = rested-holding n k t h R;
-  held-told = λ u v s. rw (R .no-held) at s;
-  told-joined = λ u v s. absurd (linked-nil u v s);
-  told-held = λ u v s. absurd (linked-nil u v s);
+  learnt = record {
+    note-of = λ u p e. absurd (omega (arith, rested-note R u));
+    note-best = λ u p s. absurd (linked-nil u p s);
+    holding = rested-holding n k t h R;
+    held-told = λ u v s. rw (R .no-held) at s;
+    told-joined = λ u v s. absurd (linked-nil u v s);
+    told-held = λ u v s. absurd (linked-nil u v s);
+  };
   crowded = λ m i j. absurd (omega (arith, rested-mark R m));
 }
 
@@ -353,10 +363,10 @@ module _ (n k : ℕ) (t : Tables) (g : List Link) (h : 1 ≤ k) (S : Standing n 
 
   -- No link is held twice.
   pub held-once : (u v : ℕ) → tally (λ e. between e u v) (buildLinks n k t g .held) ≤ 1
-  held-once = told .holding .once
+  held-once = told .learnt .holding .once
 
   -- A piece of s fragments holds at most k·s - 1 links.
   pub held-quota : (v : ℕ) → v < n →
       let l = pieces n (buildLinks n k t g .held) in
       suc (heldIn l (buildLinks n k t g .held) (getD l v 0)) ≤ k * sizeOf n l (getD l v 0)
-  held-quota = told .holding .quota
+  held-quota = told .learnt .holding .quota

@@ -55,15 +55,15 @@ module _ {n k : ℕ} {E : Links} {t₀ t : Tables} (S : Standing n t) (D : Told 
     piece-keeps : (v : ℕ) → T (placed s v) → T (placed (placePiece n (pieces n (t .held)) m s) v)
     unfolding placePiece placeWalk
     piece-keeps v p = pick-all (λ x. T (placed x v)) (lost n s (pieces n (t .held)) m) _ _
-        (path-keeps (hung-at S D C own bare) (ready-at S D C own bare) (walked-at S D C own bare) (path-at S D C own bare) v p)
-        (walk-keeps (hung-at S D C own bare) (ready-at S D C own bare) (walked-at S D C own bare) v p)
+        (path-keeps (hung-at S (D .learnt) C own bare) (ready-at S (D .learnt) C own bare) (walked-at S (D .learnt) C own bare) (path-at S (D .learnt) C own bare) v p)
+        (walk-keeps (hung-at S (D .learnt) C own bare) (ready-at S (D .learnt) C own bare) (walked-at S (D .learnt) C own bare) v p)
 
     piece-more : T (lost n t (pieces n (t .held)) m) → count (placed s) n + suc k ≤ count (placed (placePiece n (pieces n (t .held)) m s)) n
     unfolding placePiece placeWalk pick
     piece-more c =
         let (x, h, e, d) = lost-elim n t (pieces n (t .held)) m c in
         rw (lost-same n s t (pieces n (t .held)) m (C .same-mark), T-true (lost n t (pieces n (t .held)) m) c)
-        (path-more (walked-at S D C own bare) (path-at S D C own bare) (D .holding) (D .crowded x h d) (hung-at S D C own bare .same-held ∙ C .same-held) (of-joined S D (top-of S D C own bare) (h, e)))
+        (path-more (walked-at S (D .learnt) C own bare) (path-at S (D .learnt) C own bare) (D .learnt .holding) (D .crowded x h d) (hung-at S (D .learnt) C own bare .same-held ∙ C .same-held) (of-joined S (D .learnt) (top-of S (D .learnt) C own bare) (h, e)))
 
   from-keeps : {m : ℕ} {s : Tables} → m < n → Closing n E t m s → (v : ℕ) → T (placed s v) → T (placed (placeFrom n (pieces n (t .held)) m s) v)
   unfolding placeFrom pick
@@ -81,7 +81,7 @@ module _ {n k : ℕ} {E : Links} {t₀ t : Tables} (S : Standing n t) (D : Told 
   unfolding placeFrom pick
   from-more {m} {s} C own bare c =
       let test = not (placed s m) && member (pieces n (t .held)) m m in
-      let taken : T test = and-intro (not (placed s m)) (member (pieces n (t .held)) m m) (not-T (placed s m) (λ p. placed-loose s m p (loose-in S D C own bare m own))) (member-intro (pieces n (t .held)) m m (own .1)) in
+      let taken : T test = and-intro (not (placed s m)) (member (pieces n (t .held)) m m) (not-T (placed s m) (λ p. placed-loose s m p (loose-in S (D .learnt) C own bare m own))) (member-intro (pieces n (t .held)) m m (own .1)) in
       rw (T-true test taken) (piece-more C own bare c)
 
   -- After the piece m, which is lost, more than k are placed anew.
@@ -89,7 +89,7 @@ module _ {n k : ℕ} {E : Links} {t₀ t : Tables} (S : Standing n t) (D : Told 
   unfolding placePieces
   places zero h m l own bare c = absurd (omega arith)
   places (suc b) h m l own bare c =
-      let C = closing S D b (omega arith) in
+      let C = closing S (D .learnt) b (omega arith) in
       elim (ℕ-discrete m b) [
         | yes e ↦ omega (
           arith,
@@ -106,7 +106,7 @@ module _ {n k : ℕ} {E : Links} {t₀ t : Tables} (S : Standing n t) (D : Told 
   -- What is unplaced after the close is of a lost piece, so more than k are placed.
   pub close-places : (v : ℕ) → v < n → Loose (placePieces n (pieces n (t .held)) n t) v → count (placed t) n + suc k ≤ count (placed (placePieces n (pieces n (t .held)) n t)) n
   close-places v h f =
-      let C = closing S D n (omega arith) in
-      let own : Of n t (label n t v) (label n t v) = label-of S D v h in
+      let C = closing S (D .learnt) n (omega arith) in
+      let own : Of n t (label n t v) (label n t v) = label-of S (D .learnt) v h in
       let free : Loose t v = not-placed t v (λ q. placed-loose (placePieces n (pieces n (t .held)) n t) v (kept-placed (C .kept) v q) f) in
-      places n (omega arith) (label n t v) (own .0) own (of-loose S D (h, refl) own free) (left-lost S D C v h f)
+      places n (omega arith) (label n t v) (own .0) own (of-loose S (D .learnt) (h, refl) own free) (left-lost S (D .learnt) C v h f)

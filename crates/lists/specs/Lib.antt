@@ -1,0 +1,9 @@
+pub mod List
+pub mod Told
+pub mod Numbers
+pub mod Link
+pub mod Block
+pub mod Scan
+pub mod File
+pub mod Write
+pub mod Laws

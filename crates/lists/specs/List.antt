@@ -1,0 +1,169 @@
+-- What the bytes of a block and of a list file mean, and what the list writer writes: document 01, 'Bytes of a list' and 'Refusal numbers'.
+-- Assumes nothing.
+use mathlib.Core.Bool.{_||_}
+use mathlib.Core.List.{List, [], _∷_, _++_}
+use mathlib.Core.Path.{_≡_}
+use Prim.Native.Nat.{ℕ, zero, suc, _+_, _-_, _<_}
+use lib.Dec.{leb, ltb, eqb}
+use lib.ListN.{length}
+use Rattle.base.specs.Pick.{pick}
+use Rattle.base.specs.Answer.{Answer, gives, refuses}
+use Rattle.numbers.specs.Number.{readNumber, writtenNumber, Wrote, put}
+
+-- 'n: 1 to 32,768.'
+abbrev pub fragmentsMost : ℕ
+fragmentsMost = 32768
+
+-- 'Entries in one pass: at most 16,777,215.'
+abbrev pub entriesMost : ℕ
+entriesMost = 16777215
+
+-- What goes on from an answer; a refusal stays what it is.
+unfoldable pub andThen : {A B : Type 0} → Answer A → (A → Answer B) → Answer B
+andThen (gives a) f = f a
+andThen (refuses number place) f = refuses number place
+
+-- 'The place is the first byte of the bad link in the block': a refusal met inside the link at `at` stands there.
+unfoldable pub placed : {A : Type 0} → ℕ → Answer A → Answer A
+placed at (gives a) = gives a
+placed at (refuses number place) = refuses number at
+
+-- The same answer with its place counted from `by` bytes earlier.
+unfoldable pub shifted : {A : Type 0} → ℕ → Answer A → Answer A
+shifted by (gives a) = gives a
+shifted by (refuses number place) = refuses number (by + place)
+
+-- '1: n, given or in the state, is 0 or above 32,768'
+unfoldable pub sized : {A : Type 0} → ℕ → Answer A → Answer A
+sized n rest = pick (eqb n 0) (refuses 1 0) (pick (ltb fragmentsMost n) (refuses 1 0) rest)
+
+-- '4: a fragment number is n or more'; '5: both fragments are the same'
+unfoldable pub joins : {A : Type 0} → (n a b at : ℕ) → Answer A → Answer A
+joins n a b at rest =
+    pick (leb n a) (refuses 4 at) (pick (leb n b) (refuses 4 at) (pick (eqb a b) (refuses 5 at) rest))
+
+-- '12: the entry would be number 16,777,216 of its pass', where `entries` came before it
+unfoldable pub counts : {A : Type 0} → (entries at : ℕ) → Answer A → Answer A
+counts entries at rest = pick (leb entriesMost entries) (refuses 12 at) rest
+
+-- 'links, each two fragment numbers (0 to n-1) in either order'
+abbrev pub Link : Type 0
+Link = ℕ × ℕ
+
+-- Links of a list of n fragments: both ends below n, and not the same.
+abbrev pub Sound : ℕ → List Link → Type 0
+Sound n [] = Unit {0}
+Sound n (l ∷ ls) = (l .0 < n) × (l .1 < n) × (l .0 ≡ l .1 → ⊥) × Sound n ls
+
+-- A link, and the byte after it.
+pub record LinkAt : Type 0 where
+  pub link : Link
+  pub next : ℕ
+
+-- The two numbers of the link that begins at byte `at`.
+unfoldable pub readEnds : List ℕ → ℕ → Answer LinkAt
+readEnds s at =
+    andThen (readNumber s at) λ a.
+    andThen (readNumber s (a .next)) λ b.
+    gives (record { link = (a .value, b .value); next = b .next })
+
+-- 'in one link, 7 or 8 of the first number, of the second, then 4, 5, 12'
+unfoldable pub readLink : (n entries : ℕ) → List ℕ → ℕ → Answer LinkAt
+readLink n entries s at =
+    andThen (placed at (readEnds s at)) λ l.
+    joins n (l .link .0) (l .link .1) at (counts entries at (gives l))
+
+-- A link before others.
+unfoldable pub before : Link → Answer (List Link) → Answer (List Link)
+before l rest = andThen rest λ ls. gives (l ∷ ls)
+
+-- 'then links .. to the end'; 'The scan of a block stops at the first bad link'. The first argument counts down; a link has more than one byte,
+-- so that as many turns as there are bytes are enough.
+unfoldable pub linksIn : (turns n entries : ℕ) → List ℕ → ℕ → Answer (List Link)
+linksIn zero n entries s at = gives []
+linksIn (suc k) n entries s at =
+    pick (leb (length s) at) (gives [])
+    (andThen (readLink n entries s at) λ l. before (l .link) (linksIn k n (entries + 1) s (l .next)))
+
+-- The links from byte `at` to the end of the bytes.
+unfoldable pub linksAt : (n entries : ℕ) → List ℕ → ℕ → Answer (List Link)
+linksAt n entries s at = linksIn (length s - at) n entries s at
+
+-- 'A block is any part of the list that holds whole links, none included.' 'A bad link refuses its whole block.'
+unfoldable pub blockLinks : (n entries : ℕ) → List ℕ → Answer (List Link)
+blockLinks n entries s = linksAt n entries s 0
+
+-- How many links a block holds.
+unfoldable pub scanBlock : (n entries : ℕ) → List ℕ → Answer ℕ
+scanBlock n entries s = andThen (blockLinks n entries s) λ ls. gives (length ls)
+
+-- What a list file tells: n, the byte where the links begin, the links.
+pub record ListFile : Type 0 where
+  pub fragments : ℕ
+  pub begins : ℕ
+  pub links : List Link
+
+-- 'A list file is the number n of fragments, then links .. to the end.' Places count from the file's start.
+unfoldable pub fileLinks : List ℕ → Answer ListFile
+fileLinks s =
+    andThen (readNumber s 0) λ n.
+    sized (n .value)
+    (andThen (linksAt (n .value) 0 s (n .next)) λ ls.
+    gives (record { fragments = n .value; begins = n .next; links = ls }))
+
+-- The same with the number of links in their place.
+pub record ListRead : Type 0 where
+  pub fragments : ℕ
+  pub begins : ℕ
+  pub count : ℕ
+
+unfoldable pub readList : List ℕ → Answer ListRead
+readList s =
+    andThen (fileLinks s) λ f.
+    gives (record { fragments = f .fragments; begins = f .begins; count = length (f .links) })
+
+-- Where the last whole link of a part ends: at the first link that the part's end cuts (8). From bytes that are no number (7) on nothing is
+-- whole, whatever comes after: they are left to the scan, and so the cut is the part's end.
+unfoldable pub cutAfter : List ℕ → ℕ → (ℕ → ℕ) → Answer LinkAt → ℕ
+cutAfter s at further (gives l) = further (l .next)
+cutAfter s at further (refuses number place) = pick (eqb number 8) at (length s)
+
+unfoldable pub cutIn : (turns : ℕ) → List ℕ → ℕ → ℕ
+cutIn zero s at = at
+cutIn (suc k) s at = cutAfter s at (cutIn k s) (readEnds s at)
+
+unfoldable pub cutAt : List ℕ → ℕ → ℕ
+cutAt s at = cutIn (length s - at) s at
+
+unfoldable pub cutBlock : List ℕ → ℕ
+cutBlock s = cutAt s 0
+
+-- 'a list writer takes its links as words, two each, and tests 1, then 4 and 5 by first bad link, then 8 for a word left over, then 3'
+unfoldable pub wordLinks : ℕ → List ℕ → Answer (List Link)
+wordLinks n [] = gives []
+wordLinks n (a ∷ []) = refuses 8 0
+wordLinks n (a ∷ b ∷ ws) = joins n a b 0 (before (a, b) (wordLinks n ws))
+
+-- Links as words, two each.
+unfoldable pub wordsOf : List Link → List ℕ
+wordsOf [] = []
+wordsOf ((a, b) ∷ ls) = a ∷ b ∷ wordsOf ls
+
+-- The bytes of links, and of a list.
+unfoldable pub writtenLinks : List Link → List ℕ
+writtenLinks [] = []
+writtenLinks ((a, b) ∷ ls) = writtenNumber a ++ (writtenNumber b ++ writtenLinks ls)
+
+unfoldable pub writtenList : ℕ → List Link → List ℕ
+writtenList n ls = writtenNumber n ++ writtenLinks ls
+
+-- '3: .. a writer's buffer, is too short'. The answer is the position after the list; the bytes past it stay, and on a refusal all of them.
+unfoldable pub storeList : ℕ → List ℕ → Answer (List Link) → Wrote
+storeList n buffer (refuses number place) = record { answer = refuses number place; buffer = buffer }
+storeList n buffer (gives ls) =
+    pick (ltb (length buffer) (length (writtenList n ls)))
+    (record { answer = refuses 3 0; buffer = buffer })
+    (record { answer = gives (length (writtenList n ls)); buffer = put buffer 0 (writtenList n ls) })
+
+unfoldable pub writeList : ℕ → List ℕ → List ℕ → Wrote
+writeList n words buffer = storeList n buffer (sized n (wordLinks n words))

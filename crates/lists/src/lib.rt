@@ -1,0 +1,293 @@
+// Blocks of links, list files and the list writer. Numbers are read and written through the crate `numbers`, known by its promises only.
+ghost use mathlib.Core.Path.{_≡_};
+ghost use mathlib.Core.List.{_++_};
+ghost use lib.ListN.{length};
+ghost use Rattle.numbers.specs.Number.{writtenNumber, put};
+ghost use Rattle.numbers.specs.Told.{toldEnd, wrote};
+ghost use Rattle.lists.specs.List.{readEnds, readLink, scanBlock, readList, cutBlock, writeList};
+ghost use Rattle.lists.specs.Scan.{badEnds, scanFrom};
+ghost use Rattle.lists.specs.Write.{answerOr, widthOf, listSize, Fitting, writtenWords, Stored, Room};
+ghost use Rattle.lists.specs.Told.{toldLink, toldCount, toldList};
+use numbers::Read;
+use numbers::Refusal;
+use numbers::Written;
+
+// The greatest number of fragments, and of entries in one pass.
+pub const FRAGMENTS_MOST: u32 = 32768;
+
+pub const ENTRIES_MOST: u32 = 16777215;
+
+// A link's two ends and the position after it.
+pub enum Link {
+    Ends(u32, u32, usize),
+    Refused(Refusal),
+}
+
+// The number of links.
+pub enum Scanned {
+    Links(u32),
+    Refused(Refusal),
+}
+
+// The number of fragments, the position where the links begin, and the number of links.
+pub enum Listed {
+    List(u32, usize, u32),
+    Refused(Refusal),
+}
+
+// The two numbers that begin at `at`.
+fn ends_at(block: &[u8], at: usize) -> Link
+    ensures { λ r. ⌜ toldLink r ≡ readEnds (now (block .entry)) at ⌝ }
+{
+    match numbers::read_number(block, at) {
+        Read::Number(a, middle) => match numbers::read_number(block, middle) {
+            Read::Number(b, next) => Link::Ends(a, b, next),
+            Read::Refused(second) => Link::Refused(second),
+        },
+        Read::Refused(first) => Link::Refused(first),
+    }
+}
+
+// What is wrong with the ends of a link: refusal 4 or 5, or nothing, 0.
+fn bad_ends(n: u32, a: u32, b: u32) -> u32
+    ensures { λ r. ⌜ r ≡ badEnds n a b ⌝ }
+{
+    if a >= n {
+        return 4;
+    }
+    if b >= n {
+        return 4;
+    }
+    if a == b {
+        return 5;
+    }
+    0
+}
+
+// The link that begins at byte `at` of a block, where `entries` came before it in the pass.
+pub fn link_at(n: u32, entries: u32, block: &[u8], at: usize) -> Link
+    ensures { λ r. ⌜ toldLink r ≡ readLink n entries (now (block .entry)) at ⌝ }
+{
+    match ends_at(block, at) {
+        Link::Ends(a, b, next) => {
+            let bad = bad_ends(n, a, b);
+            if bad != 0 {
+                return Link::Refused(Refusal {
+                    number: bad,
+                    place: at,
+                });
+            }
+            if entries >= ENTRIES_MOST {
+                return Link::Refused(Refusal {
+                    number: 12,
+                    place: at,
+                });
+            }
+            Link::Ends(a, b, next)
+        }
+        Link::Refused(r) => Link::Refused(Refusal {
+            number: r.number,
+            place: at,
+        }),
+    }
+}
+
+// The number of links from byte `from` on.
+fn scan_from(n: u32, entries: u32, block: &[u8], from: usize) -> Scanned
+    ensures { λ r. ⌜ toldCount r ≡ scanFrom n entries (now (block .entry)) from ⌝ }
+{
+    let mut told = entries;
+    let mut at = from;
+    let mut bad: u32 = 0;
+    'links: while at < block.len() {
+        let mut first: u32 = 0;
+        let mut second: u32 = 0;
+        let mut next = at;
+        let mut ends: u32 = 0;
+        while ends < 2 {
+            match numbers::read_number(block, next) {
+                Read::Number(value, after) => {
+                    first = second;
+                    second = value;
+                    next = after;
+                    ends += 1;
+                }
+                Read::Refused(r) => {
+                    bad = r.number;
+                    break 'links;
+                }
+            }
+        }
+        bad = bad_ends(n, first, second);
+        if bad != 0 {
+            break 'links;
+        }
+        if told >= ENTRIES_MOST {
+            bad = 12;
+            break 'links;
+        }
+        told += 1;
+        at = next;
+    }
+    if bad != 0 {
+        return Scanned::Refused(Refusal {
+            number: bad,
+            place: at,
+        });
+    }
+    Scanned::Links(told - entries)
+}
+
+// The number of links of a block, where `entries` came before it in the pass.
+pub fn scan(n: u32, entries: u32, block: &[u8]) -> Scanned
+    ensures { λ r. ⌜ toldCount r ≡ scanBlock n entries (now (block .entry)) ⌝ }
+{
+    scan_from(n, entries, block, 0)
+}
+
+// A whole list file. Places count from its start.
+pub fn read_list(file: &[u8]) -> Listed
+    ensures { λ r. ⌜ toldList r ≡ readList (now (file .entry)) ⌝ }
+{
+    match numbers::read_number(file, 0) {
+        Read::Number(n, begins) => {
+            if n == 0 {
+                return Listed::Refused(Refusal {
+                    number: 1,
+                    place: 0,
+                });
+            }
+            if n > FRAGMENTS_MOST {
+                return Listed::Refused(Refusal {
+                    number: 1,
+                    place: 0,
+                });
+            }
+            match scan_from(n, 0, file, begins) {
+                Scanned::Links(count) => Listed::List(n, begins, count),
+                Scanned::Refused(bad) => Listed::Refused(bad),
+            }
+        }
+        Read::Refused(header) => Listed::Refused(header),
+    }
+}
+
+// Where the last whole link of a part of a list ends: the part's first bytes up to there are a block, and the others begin the next part.
+pub fn cut(part: &[u8]) -> usize
+    ensures { λ r. ⌜ r ≡ cutBlock (now (part .entry)) ⌝ }
+{
+    let mut at: usize = 0;
+    loop {
+        match ends_at(part, at) {
+            Link::Ends(_, _, next) => {
+                at = next;
+            }
+            Link::Refused(r) => {
+                if r.number == 8 {
+                    return at;
+                }
+                return part.len();
+            }
+        }
+    }
+}
+
+// Where the writer ended, or `other` where it refused.
+fn end_or(written: Written, other: usize) -> usize
+    ensures { λ r. ⌜ r ≡ answerOr (toldEnd written) other ⌝ }
+{
+    match written {
+        Written::End(end) => end,
+        Written::Refused(_) => other,
+    }
+}
+
+// How many bytes a number takes, and 0 for one that has no form.
+fn width(value: u32) -> usize
+    ensures { λ r. ⌜ r ≡ widthOf value ⌝ }
+{
+    let mut small = [0u8; 8];
+    let written = numbers::write_number(value, &mut small, 0);
+    end_or(written, 0)
+}
+
+// How many bytes the list takes, or what is wrong with it.
+fn list_size(n: u32, words: &[u32]) -> Written
+    ensures { λ r. ⌜ toldEnd r ≡ listSize n (now (words .entry)) ⌝ }
+{
+    if n == 0 {
+        return Written::Refused(Refusal {
+            number: 1,
+            place: 0,
+        });
+    }
+    if n > FRAGMENTS_MOST {
+        return Written::Refused(Refusal {
+            number: 1,
+            place: 0,
+        });
+    }
+    let mut size = width(n);
+    let mut i: usize = 0;
+    while i + 1 < words.len() {
+        let a = words[i];
+        let b = words[i + 1];
+        let bad = bad_ends(n, a, b);
+        if bad != 0 {
+            return Written::Refused(Refusal {
+                number: bad,
+                place: 0,
+            });
+        }
+        size += width(a) + width(b);
+        i += 2;
+    }
+    if i < words.len() {
+        return Written::Refused(Refusal {
+            number: 8,
+            place: 0,
+        });
+    }
+    Written::End(size)
+}
+
+// Writes a number that there is room for. Returns the position after it.
+fn put_number(value: u32, buffer: &mut [u8], at: usize) -> usize
+    requires { ⌜ Fitting value at (length (now buffer)) ⌝ }
+    ensures { λ r. ⌜ Stored value at (now (buffer .entry)) r (now (buffer .exit)) ⌝ }
+{
+    let written = numbers::write_number(value, buffer, at);
+    end_or(written, at)
+}
+
+// Writes the list that there is room for.
+fn put_list(n: u32, words: &[u32], buffer: &mut [u8])
+    requires { ⌜ Room n (now words) (now buffer) ⌝ }
+    ensures { λ _. ⌜ now (buffer .exit) ≡ put (now (buffer .entry)) 0 (writtenNumber n ++ writtenWords (now (words .entry))) ⌝ }
+{
+    let mut at = put_number(n, buffer, 0);
+    let mut i: usize = 0;
+    while i < words.len() {
+        at = put_number(words[i], buffer, at);
+        i += 1;
+    }
+}
+
+// Writes a list of n fragments, its links as words, two each, to the front of `buffer`.
+pub fn write_list(n: u32, words: &[u32], buffer: &mut [u8]) -> Written
+    ensures { λ r. ⌜ wrote r (now (buffer .exit)) ≡ writeList n (now (words .entry)) (now (buffer .entry)) ⌝ }
+{
+    match list_size(n, words) {
+        Written::End(size) => {
+            if buffer.len() < size {
+                return Written::Refused(Refusal {
+                    number: 3,
+                    place: 0,
+                });
+            }
+            put_list(n, words, buffer);
+            Written::End(size)
+        }
+        Written::Refused(bad) => Written::Refused(bad),
+    }
+}

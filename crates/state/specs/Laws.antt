@@ -1,0 +1,20 @@
+-- Laws about the definitions, and the lemmas that the proofs of the code rest on.
+-- Assumes nothing.
+pub mod Bounds
+pub mod Lists
+pub mod Words
+pub mod Layout
+pub mod Lay
+pub mod Held
+pub mod Agrees
+pub mod Known
+pub mod Made
+pub mod Sound
+pub mod Start
+pub mod Keeps
+pub mod KeepsReading
+pub mod KeepsBuilding
+pub mod KeepsTables
+pub mod KeepsCalls
+pub mod KeepsLeft
+pub mod KeepsBegun

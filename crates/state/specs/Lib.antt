@@ -1,0 +1,11 @@
+pub mod Layout
+pub mod Test
+pub mod Call
+pub mod Start
+pub mod Take
+pub mod Close
+pub mod Adopt
+pub mod Ask
+pub mod Told
+pub mod Laws
+pub mod Theorems
