@@ -140,7 +140,6 @@ unfolding readNumber readUpTo atMost writtenNumber
 number-written s at v rest h e =
     rw (e, groups-written (groupsMost - 1) 0 v rest at (omega (arith, most-fits)) (omega arith) (omega arith)) (simp tests)
 
--- What the writer leaves in the buffer is read back.
 abbrev ReadBack : (v at end : ℕ) → Wrote → Type 0
 ReadBack v at end w = w .answer ≡ gives end → readNumber (w .buffer) at ≡ gives (record { value = v; next = end })
 
@@ -152,9 +151,9 @@ put-read v buffer at h l = number-written _ at v _ h (drop-at (take at buffer) _
 no-gives : {A : Type 0} (number place : ℕ) (a : A) → refuses number place ≡ gives a → ⊥
 no-gives number place a e = let z : _≡_ {A = ℕ} 0 1 = cc in omega arith
 
-pub written-read : (v : ℕ) (buffer : List ℕ) (at end : ℕ) → ReadBack v at end (writeNumber v buffer at)
+read-back : (v : ℕ) (buffer : List ℕ) (at end : ℕ) → ReadBack v at end (writeNumber v buffer at)
 unfolding writeNumber writtenNumber
-written-read v buffer at end =
+read-back v buffer at end =
     elim (decLt valueMost v) [
       | yes h ↦ subst (ReadBack v at end) (write-far groupsMost valueMost v buffer at _ refl h) (λ e. absurd (no-gives _ _ _ e))
       | no h ↦
@@ -164,3 +163,8 @@ written-read v buffer at end =
                 (λ e. let p : at + length (writtenNumber v) ≡ end = cc in rw (← p) (put-read v buffer at (omega arith) (omega arith)))
           ]
     ]
+
+-- What the writer leaves in the buffer is read back.
+pub written-read : (v : ℕ) (buffer : List ℕ) (at end : ℕ) → writeNumber v buffer at .answer ≡ gives end
+    → readNumber (writeNumber v buffer at .buffer) at ≡ gives (record { value = v; next = end })
+written-read = read-back
