@@ -5,15 +5,16 @@ use mathlib.Core.List.{List, [], _∷_, _++_}
 use mathlib.Core.Logic.{_⊎_, inl, inr}
 use mathlib.Core.Path.{_≡_, refl, sym, ap, _∙_}
 use native.Mathlib.Omega.{arith}
-use native.Mathlib.Decide.{ℕ-discrete, decLe, decLt}
+use native.Mathlib.Decide.{decLe}
 use Prim.Native.Nat.{ℕ, zero, suc, _+_, _-_, _≤_, _<_}
 use lib.Dec.{leb}
 use lib.ListN.{length, length-append}
 use borrow.Author.Tests.{lt-leb}
 use Rattle.base.specs.Pick.{pick, pick-false, tests}
 use Rattle.base.specs.Answer.{Answer, gives, refuses}
-use Rattle.lists.specs.List.{andThen, before, Link, LinkAt, readLink, shifted, linksIn, linksAt, blockLinks}
-use Rattle.lists.specs.Link.{andThen-same, andThen-gives, answered, never-both, Accepted, link-accepted, link-behind, link-more, ahead}
+use Rattle.lists.specs.List.{andThen, before, Link, LinkAt, readLink, linksIn, linksAt, blockLinks}
+use Rattle.lists.specs.Words.{shifted}
+use Rattle.lists.specs.Link.{andThen-same, andThen-gives, answered, never-both, link-accepted, link-behind, link-more, ahead}
 
 module _ (n : ℕ) (s : List ℕ) where
   -- Turns enough are as good as more.
@@ -68,6 +69,24 @@ module _ (n : ℕ) (s : List ℕ) where
         let (ms, q′, r′) = andThen-gives (linksAt n (e + 1) s (l .next)) _ ls r in
         inr (l, ms, q, q′, cc)
   ]
+
+before-refuses : (l : Link) (x : Answer (List Link)) (number place : ℕ) → before l x ≡ refuses number place → x ≡ refuses number place
+unfolding before andThen
+before-refuses l (gives ls) number place e = absurd (never-both refl e)
+before-refuses l (refuses k p) number place e = e
+
+-- Links that are refused: the next one is, or others after it.
+pub stopped : (n : ℕ) (s : List ℕ) (e at number place : ℕ) → linksAt n e s at ≡ refuses number place
+    → (at < length s)
+    × ((readLink n e s at ≡ refuses number place)
+    ⊎ ((l : LinkAt) × (readLink n e s at ≡ gives l) × (linksAt n (e + 1) s (l .next) ≡ refuses number place)))
+stopped n s e at number place r = elim (decLe (length s) at) [
+  | yes h ↦ absurd (never-both (links-end n s e at h) r)
+  | no h ↦ elim (answered (readLink n e s at)) [
+    | inl (l, p) ↦ (omega arith, inr (l, p, before-refuses (l .link) _ number place (sym (links-go n s e at l p) ∙ r)))
+    | inr (k, q, p) ↦ let y = links-stop n s e at k q (omega arith) p in (omega arith, inl (cc))
+  ]
+]
 
 -- A link goes before others wherever their refusal stands.
 before-shifted : (by : ℕ) (l : Link) (x : Answer (List Link)) → shifted by (before l x) ≡ before l (shifted by x)

@@ -1,17 +1,18 @@
 -- The answers of reading a list file, and the cut's steps.
 -- Assumes nothing.
-use mathlib.Core.List.{List, [], _∷_, _++_}
+use mathlib.Core.Bool.{true, false}
+use mathlib.Core.List.{List}
 use mathlib.Core.Logic.{inl, inr}
-use mathlib.Core.Path.{_≡_, refl, sym, ap, _∙_}
+use mathlib.Core.Path.{_≡_, refl, sym, _∙_}
 use native.Mathlib.Omega.{arith}
-use Prim.Native.Nat.{ℕ, zero, suc, _+_, _-_, _≤_, _<_}
+use Prim.Native.Nat.{ℕ, zero, suc, _-_, _≤_}
 use lib.ListN.{length}
-use Rattle.base.specs.Pick.{pick, tests}
+use Rattle.base.specs.Pick.{pick-true, pick-false, tests}
 use Rattle.base.specs.Answer.{Answer, gives, refuses}
-use Rattle.numbers.specs.Number.{Numeral, readNumber}
-use Rattle.lists.specs.List.{fragmentsMost, Link, linksAt, andThen, sized, LinkAt, readEnds, ListRead, readList, fileLinks, cutAfter, cutIn, cutAt, cutBlock}
+use Rattle.numbers.specs.Number.{readNumber}
+use Rattle.lists.specs.List.{noSize, Link, linksAt, andThen, sized, LinkAt, readEnds, readList, fileLinks, cutAfter, cutIn, cutAt}
 use Rattle.numbers.specs.Laws.{number-none}
-use Rattle.lists.specs.Link.{no-first, ends-told, andThen-gives, never-both, Ends, NoEnds, ends-are, ends-are-not, ends-within, answered}
+use Rattle.lists.specs.Link.{no-first, ends-told, andThen-gives, never-both, Ends, NoEnds, ends-are, ends-are-not, ends-within}
 use Rattle.lists.specs.Scan.{scanFrom}
 
 -- A scan refuses as the links are refused.
@@ -27,27 +28,22 @@ module _ (s : List ℕ) where
   file-header number place r = rw r refl
 
   module _ (n begins : ℕ) (r : readNumber s 0 ≡ gives (record { value = n; next = begins })) where
-    pub file-none : n ≡ 0 → refuses 1 0 ≡ readList s
+    pub file-size : noSize n ≡ true → refuses 1 0 ≡ readList s
     unfolding andThen readList fileLinks sized
-    file-none p = rw r (simp tests)
+    file-size h = rw r (simp (h, pick-true))
 
-    module _ (h : n ≡ 0 → ⊥) where
-      pub file-many : fragmentsMost < n → refuses 1 0 ≡ readList s
-      unfolding andThen readList fileLinks sized
-      file-many p = rw r (simp tests)
-
-      module _ (k : n ≤ fragmentsMost) where
-        pub file-list : (count : ℕ) → scanFrom n 0 s begins ≡ gives count → gives (record { fragments = n; begins = begins; count = count }) ≡ readList s
-        unfolding andThen readList fileLinks sized scanFrom
-        file-list count p = let (ls, q, z) = andThen-gives (linksAt n 0 s begins) _ count p in go ls q (cc)
-          where
-            go : (ls : List Link) → linksAt n 0 s begins ≡ gives ls → count ≡ length ls
+    module _ (h : noSize n ≡ false) where
+      pub file-list : (count : ℕ) → scanFrom n 0 s begins ≡ gives count → gives (record { fragments = n; begins = begins; count = count }) ≡ readList s
+      unfolding andThen readList fileLinks sized scanFrom
+      file-list count p = let (ls, q, z) = andThen-gives (linksAt n 0 s begins) _ count p in go ls q (cc)
+        where
+          go : (ls : List Link) → linksAt n 0 s begins ≡ gives ls → count ≡ length ls
               → gives (record { fragments = n; begins = begins; count = count }) ≡ readList s
-            go ls q z = rw (r, z) (simp (tests, q))
+          go ls q z = rw (r, z) (simp (h, pick-false, q))
 
-        pub file-bad : (number place : ℕ) → scanFrom n 0 s begins ≡ refuses number place → refuses number place ≡ readList s
-        unfolding andThen readList fileLinks sized scanFrom
-        file-bad number place p = rw r (simp (tests, scan-refused (linksAt n 0 s begins) number place p))
+      pub file-bad : (number place : ℕ) → scanFrom n 0 s begins ≡ refuses number place → refuses number place ≡ readList s
+      unfolding andThen readList fileLinks sized scanFrom
+      file-bad number place p = rw r (simp (h, pick-false, scan-refused (linksAt n 0 s begins) number place p))
 
 -- The cut's steps: from a link on, the cut is the same.
 cut-none : (s : List ℕ) (k at : ℕ) → length s ≤ at → cutIn k s at ≡ at
@@ -60,8 +56,9 @@ unfolding cutIn cutAfter
 cut-turns s zero m at p q = sym (cut-none s m at (omega arith))
 cut-turns s (suc k) zero at p q = cut-none s (suc k) at (omega arith)
 cut-turns s (suc k) (suc m) at p q = elim (ends-told s at (readEnds s at) refl) [
-    inl (l, e, d) ↦ let w = ends-within d in rw e (cut-turns s k m (l .next) (omega arith) (omega arith))
-  | inr (number, place, e, d) ↦ rw e refl ]
+  | inl (l, e, d) ↦ let w = ends-within d in rw e (cut-turns s k m (l .next) (omega arith) (omega arith))
+  | inr (number, place, e, d) ↦ rw e refl
+]
 
 -- The cut with a turn at hand.
 module _ (s : List ℕ) (at : ℕ) where

@@ -1,9 +1,8 @@
 -- What the bytes of a block and of a list file mean, and what the list writer writes: document 01, 'Bytes of a list' and 'Refusal numbers'.
 -- Assumes nothing.
-use mathlib.Core.Bool.{_||_}
+use mathlib.Core.Bool.{Bool, _||_}
 use mathlib.Core.List.{List, [], _∷_, _++_}
-use mathlib.Core.Path.{_≡_}
-use Prim.Native.Nat.{ℕ, zero, suc, _+_, _-_, _<_}
+use Prim.Native.Nat.{ℕ, zero, suc, _+_, _-_}
 use lib.Dec.{leb, ltb, eqb}
 use lib.ListN.{length}
 use Rattle.base.specs.Pick.{pick}
@@ -28,14 +27,12 @@ unfoldable pub placed : {A : Type 0} → ℕ → Answer A → Answer A
 placed at (gives a) = gives a
 placed at (refuses number place) = refuses number at
 
--- The same answer with its place counted from `by` bytes earlier.
-unfoldable pub shifted : {A : Type 0} → ℕ → Answer A → Answer A
-shifted by (gives a) = gives a
-shifted by (refuses number place) = refuses number (by + place)
-
 -- '1: n, given or in the state, is 0 or above 32,768'
+unfoldable pub noSize : ℕ → Bool
+noSize n = eqb n 0 || ltb fragmentsMost n
+
 unfoldable pub sized : {A : Type 0} → ℕ → Answer A → Answer A
-sized n rest = pick (eqb n 0) (refuses 1 0) (pick (ltb fragmentsMost n) (refuses 1 0) rest)
+sized n rest = pick (noSize n) (refuses 1 0) rest
 
 -- '4: a fragment number is n or more'; '5: both fragments are the same'
 unfoldable pub joins : {A : Type 0} → (n a b at : ℕ) → Answer A → Answer A
@@ -49,11 +46,6 @@ counts entries at rest = pick (leb entriesMost entries) (refuses 12 at) rest
 -- 'links, each two fragment numbers (0 to n-1) in either order'
 abbrev pub Link : Type 0
 Link = ℕ × ℕ
-
--- Links of a list of n fragments: both ends below n, and not the same.
-abbrev pub Sound : ℕ → List Link → Type 0
-Sound n [] = Unit {0}
-Sound n (l ∷ ls) = (l .0 < n) × (l .1 < n) × (l .0 ≡ l .1 → ⊥) × Sound n ls
 
 -- A link, and the byte after it.
 pub record LinkAt : Type 0 where
@@ -143,11 +135,6 @@ unfoldable pub wordLinks : ℕ → List ℕ → Answer (List Link)
 wordLinks n [] = gives []
 wordLinks n (a ∷ []) = refuses 8 0
 wordLinks n (a ∷ b ∷ ws) = joins n a b 0 (before (a, b) (wordLinks n ws))
-
--- Links as words, two each.
-unfoldable pub wordsOf : List Link → List ℕ
-wordsOf [] = []
-wordsOf ((a, b) ∷ ls) = a ∷ b ∷ wordsOf ls
 
 -- The bytes of links, and of a list.
 unfoldable pub writtenLinks : List Link → List ℕ

@@ -5,8 +5,8 @@ use mathlib.Core.Path.{_≡_, sym, subst, ap, _∙_}
 use native.Mathlib.Omega.{arith}
 use Prim.Native.Nat.{ℕ, _+_, _≤_}
 use lib.ListN.{length, take}
-use Rattle.base.specs.Answer.{Answer, gives, refuses}
-use Rattle.numbers.specs.Number.{Numeral, readNumber, groupsMost}
+use Rattle.base.specs.Answer.{gives, refuses}
+use Rattle.numbers.specs.Number.{Numeral, readNumber}
 use Rattle.numbers.specs.Words.{Whole, seen, moved}
 use Rattle.numbers.specs.Laws as laws
 
@@ -36,6 +36,3 @@ module _ (s : List ℕ) (at number place : ℕ) (e : readNumber s at ≡ refuses
 
     pub refused-less : (c : ℕ) → seen s at ≤ c → readNumber (take c s) at ≡ refuses number place
     refused-less c k = laws.number-less s at c k whole-no ∙ e
-
-    pub refused-there : seen s at ≤ length s
-    refused-there = laws.number-there s at whole-no

@@ -1,24 +1,32 @@
 -- The scan's steps: what is left from here on gives the whole answer.
 -- Assumes nothing.
 use mathlib.Core.Bool.{Bool, true, false}
-use mathlib.Core.List.{List, [], _∷_, _++_}
+use mathlib.Core.List.{List}
 use mathlib.Core.Path.{_≡_, refl, sym, ap, _∙_}
 use native.Mathlib.Omega.{arith}
 use native.Mathlib.Nat.{sub-self, zero-add, add-zero}
-use native.Mathlib.Decide.{ℕ-discrete}
-use Prim.Native.Nat.{ℕ, zero, suc, _+_, _-_, _≤_, _<_}
+use native.Mathlib.Decide.{ℕ-discrete, decLe}
+use Prim.Native.Nat.{ℕ, _+_, _-_, _≤_, _<_}
 use lib.Dec.{leb, eqb}
 use lib.ListN.{length}
 use Rattle.base.specs.Pick.{pick, tests}
 use Rattle.base.specs.Answer.{Answer, gives, refuses}
-use Rattle.numbers.specs.Number.{Numeral, readNumber}
+use Rattle.numbers.specs.Number.{readNumber}
 use Rattle.lists.specs.List.{entriesMost, andThen, before, joins, counts, Link, LinkAt, readLink, linksAt}
-use Rattle.lists.specs.Link.{Ends, NoEnds, no-first, no-second, link-is, answered}
+use Rattle.lists.specs.Link.{Ends, NoEnds, no-first, no-second, link-is}
 use Rattle.lists.specs.Block.{links-end, links-go, links-stop}
 
 -- The refusal that the ends of a link ask for, or 0.
 unfoldable pub badEnds : (n a b : ℕ) → ℕ
 badEnds n a b = pick (leb n a) 4 (pick (leb n b) 4 (pick (eqb a b) 5 0))
+
+-- The same with the count of entries.
+unfoldable pub badLink : (n entries a b : ℕ) → ℕ
+badLink n entries a b = pick (eqb (badEnds n a b) 0) (pick (leb entriesMost entries) 12 0) (badEnds n a b)
+
+-- How a scan ends: with the refusal of the link at `at`, or, where that is 0, with the count.
+unfoldable pub scanEnd : (bad at count : ℕ) → Answer ℕ
+scanEnd bad at count = pick (eqb bad 0) (gives count) (refuses bad at)
 
 -- How many links stand from byte `at` on.
 unfoldable pub scanFrom : (n entries : ℕ) → List ℕ → ℕ → Answer ℕ
@@ -44,11 +52,21 @@ module _ (n a b : ℕ) where
       unfolding badEnds
       bad-none p = simp tests
 
+-- The answers of a scan's end.
+module _ (bad at count : ℕ) where
+  pub end-bad : (bad ≡ 0 → ⊥) → refuses bad at ≡ scanEnd bad at count
+  unfolding scanEnd
+  end-bad h = simp tests
+
+  pub end-good : bad ≡ 0 → gives count ≡ scanEnd bad at count
+  unfolding scanEnd
+  end-good h = simp tests
+
 -- The same test as the definitions say it.
 module _ {A : Type 0} (at : ℕ) (rest : Answer A) where
   -- Both ladders over one set of tests.
   told-bad : (f g i : Bool) → (_≡_ {A = ℕ} (pick f 4 (pick g 4 (pick i 5 0))) 0 → ⊥)
-    → pick f (refuses 4 at) (pick g (refuses 4 at) (pick i (refuses 5 at) rest)) ≡ refuses (pick f 4 (pick g 4 (pick i 5 0))) at
+      → pick f (refuses 4 at) (pick g (refuses 4 at) (pick i (refuses 5 at) rest)) ≡ refuses (pick f 4 (pick g 4 (pick i 5 0))) at
   unfolding pick
   told-bad true g i k = refl
   told-bad false true i k = refl
@@ -56,7 +74,7 @@ module _ {A : Type 0} (at : ℕ) (rest : Answer A) where
   told-bad false false false k = absurd (k refl)
 
   told-good : (f g i : Bool) → _≡_ {A = ℕ} (pick f 4 (pick g 4 (pick i 5 0))) 0
-    → pick f (refuses 4 at) (pick g (refuses 4 at) (pick i (refuses 5 at) rest)) ≡ rest
+      → pick f (refuses 4 at) (pick g (refuses 4 at) (pick i (refuses 5 at) rest)) ≡ rest
   unfolding pick
   told-good true g i k = absurd (omega arith)
   told-good false true i k = absurd (omega arith)
@@ -72,19 +90,49 @@ module _ {A : Type 0} (at : ℕ) (rest : Answer A) where
     unfolding joins badEnds
     joins-good h = told-good (leb n a) (leb n b) (eqb a b) h
 
--- The answers for a link whose numbers were read.
+-- The answers of the test of a link.
+module _ (n e a b : ℕ) where
+  pub link-ends : (bad : ℕ) → bad ≡ badEnds n a b → (bad ≡ 0 → ⊥) → bad ≡ badLink n e a b
+  unfolding badLink
+  link-ends bad z h = let k : badEnds n a b ≡ 0 → ⊥ = (λ y. h (z ∙ y)) in rw z (simp tests)
+
+  module _ (z : badEnds n a b ≡ 0) where
+    pub link-twelve : entriesMost ≤ e → 12 ≡ badLink n e a b
+    unfolding badLink
+    link-twelve h = simp tests
+
+    pub link-none : e < entriesMost → 0 ≡ badLink n e a b
+    unfolding badLink
+    link-none h = simp tests
+
+  -- A link that nothing is wrong with.
+  pub good-link : badLink n e a b ≡ 0 → (badEnds n a b ≡ 0) × (e < entriesMost)
+  good-link z = elim (ℕ-discrete (badEnds n a b) 0) [
+    | no h ↦ absurd (h (link-ends _ refl h ∙ z))
+    | yes h ↦ elim (decLe entriesMost e) [
+      | yes k ↦ absurd (omega (arith, link-twelve h k))
+      | no k ↦ (h, omega arith)
+    ]
+  ]
+
+-- A link whose numbers were read, by that test.
 module _ (n e : ℕ) {s : List ℕ} {at : ℕ} {l : LinkAt} (d : Ends s at l) where
-  pub link-bad : (bad : ℕ) → bad ≡ badEnds n (l .link .0) (l .link .1) → (bad ≡ 0 → ⊥) → readLink n e s at ≡ refuses bad at
-  link-bad bad z h = link-is n e d ∙ joins-bad at _ n _ _ (λ y. h (z ∙ y)) ∙ ap (λ (k : ℕ). refuses k at) (sym z)
+  pub link-bad : (bad : ℕ) → bad ≡ badLink n e (l .link .0) (l .link .1) → (bad ≡ 0 → ⊥) → readLink n e s at ≡ refuses bad at
+  unfolding counts
+  link-bad bad z h = elim (ℕ-discrete (badEnds n (l .link .0) (l .link .1)) 0) [
+    | no y ↦
+        link-is n e d ∙ joins-bad at _ n _ _ y ∙ ap (λ (k : ℕ). refuses k at) (link-ends n e _ _ _ refl y ∙ sym z)
+    | yes y ↦ elim (decLe entriesMost e) [
+      | yes k ↦ rw (z ∙ sym (link-twelve n e _ _ y k)) (link-is n e d ∙ joins-good at _ n _ _ y ∙ simp tests)
+      | no k ↦ absurd (h (z ∙ sym (link-none n e _ _ y (omega arith))))
+    ]
+  ]
 
-  module _ (z : badEnds n (l .link .0) (l .link .1) ≡ 0) where
-    pub link-full : entriesMost ≤ e → readLink n e s at ≡ refuses 12 at
-    unfolding counts
-    link-full h = link-is n e d ∙ joins-good at _ n _ _ z ∙ simp tests
-
-    pub link-good : e < entriesMost → readLink n e s at ≡ gives l
-    unfolding counts
-    link-good h = link-is n e d ∙ joins-good at _ n _ _ z ∙ simp tests
+  pub link-good : badLink n e (l .link .0) (l .link .1) ≡ 0 → readLink n e s at ≡ gives l
+  unfolding counts
+  link-good z =
+      let (y, h) = good-link n e _ _ z in
+      link-is n e d ∙ joins-good at _ n _ _ y ∙ simp tests
 
 -- How many of the numbers of the link at `at` are read: none, the first (in `second`), or both. The next stands at `next`.
 pub record Halfway (s : List ℕ) (at first second next ends : ℕ) : Type 0 where
@@ -102,12 +150,14 @@ module _ {s : List ℕ} {at first second next ends : ℕ} (w : Halfway s at firs
     none = λ p. absurd (omega arith);
     one = λ p. let z : next ≡ at = w .none (omega arith) in (rw z at r);
     both = λ p. record { middle = next; first = w .one (omega arith); second = r };
-    most = omega arith }
+    most = omega arith;
+  }
 
   pub halfway-off : (number place : ℕ) → readNumber s next ≡ refuses number place → NoEnds s at number place
   halfway-off number place r = elim (ℕ-discrete ends 0) [
-      yes z ↦ let y : next ≡ at = w .none z in no-first (rw y at r)
-    | no z ↦ no-second (record { value = second; next = next }) (w .one (omega arith)) r ]
+    | yes z ↦ let y : next ≡ at = w .none z in no-first (rw y at r)
+    | no z ↦ no-second (record { value = second; next = next }) (w .one (omega arith)) r
+  ]
 
 -- What is left from `at` on, behind the links told so far, is the whole answer.
 pub record Scanning (n entries : ℕ) (s : List ℕ) (from told at bad : ℕ) : Type 0 where
@@ -120,36 +170,30 @@ unfolding scanFrom
 scanning-starts n entries s from = record { left = simp (sub-self, zero-add); more = omega arith; clean = refl }
 
 one-more : {told entries : ℕ} (l : Link) (x : Answer (List Link)) → entries ≤ told
-  → (andThen x λ ls. gives (told + 1 - entries + length ls)) ≡ (andThen (before l x) λ ls. gives (told - entries + length ls))
+    → (andThen x λ ls. gives (told + 1 - entries + length ls)) ≡ (andThen (before l x) λ ls. gives (told - entries + length ls))
 unfolding andThen before
 one-more l (gives ls) h = ap gives (omega arith)
 one-more l (refuses number place) h = refl
-
--- How the loop is left: with the refusal of the link at `at`, or past the last link.
-pub record Out (n entries : ℕ) (s : List ℕ) (from told at bad : ℕ) : Type 0 where
-  pub stopped : (bad ≡ 0 → ⊥) → refuses bad at ≡ scanFrom n entries s from
-  pub ended : bad ≡ 0 → gives (told - entries) ≡ scanFrom n entries s from
 
 module _ {n entries : ℕ} {s : List ℕ} {from told at bad : ℕ} (w : Scanning n entries s from told at bad) where
   pub scan-on : (l : LinkAt) → readLink n told s at ≡ gives l → (now : ℕ) → now ≡ 0 → Scanning n entries s from (told + 1) (l .next) now
   scan-on l r now z = record {
     left =
-      one-more (l .link) (linksAt n (told + 1) s (l .next)) (w .more)
-      ∙ ap (λ (x : Answer (List Link)). andThen x λ ls. gives (told - entries + length ls)) (sym (links-go n s told at l r))
-      ∙ w .left;
+        one-more (l .link) (linksAt n (told + 1) s (l .next)) (w .more)
+        ∙ ap (λ (x : Answer (List Link)). andThen x λ ls. gives (told - entries + length ls)) (sym (links-go n s told at l r))
+        ∙ w .left;
     more = let m = w .more in omega arith;
-    clean = z }
+    clean = z;
+  }
 
-  -- What was found bad with the link at `at`, as the loop is left with it.
+  -- The loop is left with what was found bad with the link at `at`, or past the last link.
   pub scan-off : at < length s → (number : ℕ) → (number ≡ 0 → ⊥) → readLink n told s at ≡ refuses number at
-    → (now : ℕ) → now ≡ number → Out n entries s from told at now
-  unfolding andThen
-  scan-off h number k r now z = record {
-    stopped = λ y. rw z (rw (links-stop n s told at number at h r) at (w .left));
-    ended = λ y. absurd (k (sym z ∙ y)) }
+      → (now : ℕ) → now ≡ number → scanEnd now at (told - entries) ≡ scanFrom n entries s from
+  unfolding andThen scanEnd
+  scan-off h number k r now z = rw z (simp tests (rw (links-stop n s told at number at h r) at (w .left)))
 
-  pub scan-end : length s ≤ at → (now : ℕ) → now ≡ bad → Out n entries s from told at now
-  unfolding andThen
-  scan-end h now z = record {
-    stopped = λ y. absurd (y (z ∙ w .clean));
-    ended = λ y. (simp add-zero at (rw (links-end n s told at h) at (w .left))) }
+  pub scan-end : length s ≤ at → (now : ℕ) → now ≡ bad → scanEnd now at (told - entries) ≡ scanFrom n entries s from
+  unfolding andThen scanEnd
+  scan-end h now z =
+      let y : now ≡ 0 = z ∙ w .clean in
+      simp tests (simp add-zero at (rw (links-end n s told at h) at (w .left)))

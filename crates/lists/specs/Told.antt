@@ -1,8 +1,7 @@
 -- What each answer of this crate says: document 01's number and values for every case of the enum.
 -- Assumes nothing.
 use Prim.Native.Nat.{ℕ}
-use mathlib.Core.List.{List}
-use Rattle.base.specs.Answer.{Answer, gives, refuses}
+use Rattle.base.specs.Answer.{Answer, gives}
 use Rattle.numbers.specs.Told.{refused}
 use Rattle.lists.specs.List.{LinkAt, ListRead}
 use Rattle.lists.specs.declared.Link.{Link}

@@ -1,22 +1,23 @@
 -- The list writer's steps: the size of the list word by word, and the bytes put number by number.
 -- Assumes nothing.
-use mathlib.Core.List.{List, [], _∷_, _++_, append-assoc, append-nil}
+use mathlib.Core.Bool.{true, false}
+use mathlib.Core.List.{List, [], _∷_, _++_, append-assoc}
 use mathlib.Core.Path.{_≡_, refl, sym, ap, _∙_}
 use native.Mathlib.Omega.{arith}
 use native.Mathlib.Nat.{add-assoc, add-zero}
 use native.Mathlib.Numerals.{add-one}
 use native.Mathlib.Decide.{decLe}
-use Prim.Native.Nat.{ℕ, zero, suc, _+_, _-_, _*_, _≤_, _<_}
-use borrow.Author.Tests.{ltb-false, eqb-false}
-use lib.Dec.{ltb, eqb}
-use lib.ListN.{length, take, drop, getD, length-append, length-take, length-drop, drop-of-length-le}
+use Prim.Native.Nat.{ℕ, zero, suc, _+_, _*_, _≤_, _<_}
+use lib.Dec.{ltb}
+use lib.ListN.{length, take, drop, getD, length-append, drop-of-length-le}
 use lib.Seq.{take-at, drop-at, drop-drop, drop-cons, length-take-le}
-use Rattle.base.specs.Pick.{pick, pick-all, tests}
+use Rattle.base.specs.Pick.{pick, pick-true, pick-false, pick-all, tests}
 use Rattle.base.specs.Answer.{Answer, gives, refuses}
-use Rattle.numbers.specs.Number.{groupsMost, valueMost, groupsOf, writtenNumber, put, Wrote, writeUpTo, writeNumber}
+use Rattle.numbers.specs.Number.{groupsMost, valueMost, writtenNumber, put, Wrote, writeUpTo, writeNumber}
 use Rattle.numbers.specs.Writing.{groups-few, put-none, length-put}
-use Rattle.lists.specs.List.{fragmentsMost, andThen, before, sized, joins, Link, Sound, wordLinks, wordsOf, writtenLinks, writtenList, storeList, writeList}
-use Rattle.lists.specs.Link.{never-both, andThen-gives, pick-gives, joins-gives}
+use Rattle.lists.specs.List.{fragmentsMost, andThen, before, noSize, sized, Link, wordLinks, writtenLinks, writtenList, storeList, writeList}
+use Rattle.lists.specs.Words.{Sound, wordsOf}
+use Rattle.lists.specs.Link.{never-both, andThen-gives, size-good, sized-gives, joins-gives}
 use Rattle.lists.specs.Scan.{badEnds, bad-first, bad-second, joins-bad, joins-good}
 
 -- A number's bytes are few.
@@ -26,7 +27,7 @@ written-few v = groups-few groupsMost v
 
 -- The number writer where it is not refused.
 pub write-fitting : (v : ℕ) (buffer : List ℕ) (at : ℕ) → v ≤ valueMost → at + length (writtenNumber v) ≤ length buffer
-  → writeNumber v buffer at ≡ record { answer = gives (at + length (writtenNumber v)); buffer = put buffer at (writtenNumber v) }
+    → writeNumber v buffer at ≡ record { answer = gives (at + length (writtenNumber v)); buffer = put buffer at (writtenNumber v) }
 unfolding writeNumber writeUpTo writtenNumber
 write-fitting v buffer at h k = simp tests
 
@@ -57,8 +58,9 @@ width-far v buffer h = simp tests
 -- A number written into eight bytes shows its width.
 pub width-told : (v : ℕ) (buffer : List ℕ) → length buffer ≡ 8 → answerOr (writeNumber v buffer 0 .answer) 0 ≡ widthOf v
 width-told v buffer h = elim (decLe v valueMost) [
-    yes k ↦ rw (write-fitting v buffer 0 k (omega (arith, written-few v)), width-is v k) (omega arith)
-  | no k ↦ width-far v buffer (omega arith) ]
+  | yes k ↦ rw (write-fitting v buffer 0 k (omega (arith, written-few v)), width-is v k) (omega arith)
+  | no k ↦ width-far v buffer (omega arith)
+]
 
 -- How many bytes the list takes, refused as the list writer refuses its words.
 unfoldable pub listSize : ℕ → List ℕ → Answer ℕ
@@ -86,30 +88,28 @@ pub record Room (n : ℕ) (words buffer : List ℕ) : Type 0 where
 -- Ends that nothing is wrong with.
 good-ends : (n a b : ℕ) → badEnds n a b ≡ 0 → (a < n) × (b < n)
 good-ends n a b z = elim (decLe n a) [
-    yes h ↦ absurd (omega (arith, bad-first n a b h))
+  | yes h ↦ absurd (omega (arith, bad-first n a b h))
   | no h ↦ elim (decLe n b) [
-      yes k ↦ absurd (omega (arith, bad-second n a b (omega arith) k))
-    | no k ↦ (omega arith, omega arith) ] ]
+    | yes k ↦ absurd (omega (arith, bad-second n a b (omega arith) k))
+    | no k ↦ (omega arith, omega arith)
+  ]
+]
 
 drop-two : (s : List ℕ) (i : ℕ) → i + 1 < length s → drop i s ≡ getD s i 0 ∷ getD s (i + 1) 0 ∷ drop (i + 2) s
 drop-two s i h = drop-cons s i 0 (omega arith) ∙ ap (_∷_ (getD s i 0)) (rw (← add-one i) (drop-cons s (i + 1) 0 h ∙ rw (← add-one (i + 1), add-assoc) refl))
 
 -- A link more in the size.
 size-more : (a b size size′ : ℕ) (x : Answer (List Link)) → size′ ≡ size + (length (writtenNumber a) + length (writtenNumber b))
-  → (andThen x λ ls. gives (size′ + length (writtenLinks ls))) ≡ (andThen (before (a, b) x) λ ls. gives (size + length (writtenLinks ls)))
+    → (andThen x λ ls. gives (size′ + length (writtenLinks ls))) ≡ (andThen (before (a, b) x) λ ls. gives (size + length (writtenLinks ls)))
 unfolding andThen before writtenLinks
 size-more a b size size′ (gives ls) z = ap gives (simp length-append (omega arith))
 size-more a b size size′ (refuses number place) z = refl
 
 -- The list's size: the words from `i` on and the size so far give the whole answer.
 module _ (n : ℕ) (words : List ℕ) where
-  pub size-none : n ≡ 0 → refuses 1 0 ≡ listSize n words
+  pub size-refused : noSize n ≡ true → refuses 1 0 ≡ listSize n words
   unfolding andThen listSize sized
-  size-none h = simp tests
-
-  pub size-many : (n ≡ 0 → ⊥) → fragmentsMost < n → refuses 1 0 ≡ listSize n words
-  unfolding andThen listSize sized
-  size-many h k = simp tests
+  size-refused h = simp (h, pick-true)
 
   pub record Sizing (i size : ℕ) : Type 0 where
     pub left : (andThen (wordLinks n (drop i words)) λ ls. gives (size + length (writtenLinks ls))) ≡ listSize n words
@@ -117,11 +117,12 @@ module _ (n : ℕ) (words : List ℕ) where
     pub most : size ≤ groupsMost * (i + 1)
     pub few : n ≤ fragmentsMost
 
-  pub sizing-starts : (n ≡ 0 → ⊥) → n ≤ fragmentsMost → (size : ℕ) → size ≡ widthOf n → Sizing 0 size
+  pub sizing-starts : noSize n ≡ false → (size : ℕ) → size ≡ widthOf n → Sizing 0 size
   unfolding listSize sized writtenList
-  sizing-starts h k size z =
+  sizing-starts h size z =
+      let k = size-good n h .1 in
       let y : size ≡ length (writtenNumber n) = z ∙ width-is n (omega arith) in
-      record { left = simp (tests, length-append, y); upto = omega arith; most = omega (arith, written-few n); few = k }
+      record { left = simp (h, pick-false, length-append, y); upto = omega arith; most = omega (arith, written-few n); few = k }
 
   module _ {i size : ℕ} (w : Sizing i size) where
     pub size-end : length words ≤ i → gives size ≡ listSize n words
@@ -142,7 +143,7 @@ module _ (n : ℕ) (words : List ℕ) where
           (rw (joins-bad 0 _ n _ _ (λ x. k (z ∙ x)), ← z) at y)
 
       pub size-on : badEnds n (getD words i 0) (getD words (i + 1) 0) ≡ 0 → (size′ : ℕ)
-        → size′ ≡ size + (widthOf (getD words i 0) + widthOf (getD words (i + 1) 0)) → Sizing (i + 2) size′
+          → size′ ≡ size + (widthOf (getD words i 0) + widthOf (getD words (i + 1) 0)) → Sizing (i + 2) size′
       unfolding wordLinks
       size-on z size′ y =
           let g = good-ends n _ _ z in
@@ -154,17 +155,18 @@ module _ (n : ℕ) (words : List ℕ) where
           let m = w .most in
           record {
             left =
-              size-more _ _ size size′ (wordLinks n (drop (i + 2) words)) (y ∙ rw (a, b) refl)
-              ∙ ap (λ (x : Answer (List Link)). andThen x λ ls. gives (size + length (writtenLinks ls)))
+                size-more _ _ size size′ (wordLinks n (drop (i + 2) words)) (y ∙ rw (a, b) refl)
+                ∙ ap (λ (x : Answer (List Link)). andThen x λ ls. gives (size + length (writtenLinks ls)))
                 (sym (ap (wordLinks n) (drop-two words i h) ∙ joins-good 0 _ n _ _ z))
-              ∙ w .left;
+                ∙ w .left;
             upto = omega arith;
             most = omega arith;
-            few = w .few }
+            few = w .few;
+          }
 
 -- A number put where the writer has room for it.
 pub stored : {value at : ℕ} {buffer : List ℕ} → Fitting value at (length buffer) → (answer : Answer ℕ) (after : List ℕ) (r : ℕ)
-  → record { answer = answer; buffer = after } ≡ writeNumber value buffer at → r ≡ answerOr answer at → Stored value at buffer r after
+    → record { answer = answer; buffer = after } ≡ writeNumber value buffer at → r ≡ answerOr answer at → Stored value at buffer r after
 stored {value} {at} {buffer} f answer after r e z =
     let y = e ∙ write-fitting value buffer at (f .most) (f .room) in
     record { end = z ∙ ap (λ (w : Wrote). answerOr (w .answer) at) y; bytes = ap (λ (w : Wrote). w .buffer) y }
@@ -176,9 +178,9 @@ put-put s at x y h =
     let d = drop (at + length x) s in
     let l : length (take at s ++ x) ≡ at + length x = length-append (take at s) x ∙ ap (λ (k : ℕ). k + length x) (length-take-le at s (omega arith)) in
     let f : drop (at + length x + length y) (take at s ++ x ++ d) ≡ drop (at + length x + length y) s
-          = sym (drop-drop (length y) (at + length x) (take at s ++ x ++ d))
-            ∙ ap (drop (length y)) (drop-at (take at s ++ x) d (at + length x) l)
-            ∙ drop-drop (length y) (at + length x) s in
+    = sym (drop-drop (length y) (at + length x) (take at s ++ x ++ d))
+    ∙ ap (drop (length y)) (drop-at (take at s ++ x) d (at + length x) l)
+    ∙ drop-drop (length y) (at + length x) s in
     rw (← append-assoc (take at s) x d, take-at (take at s ++ x) d (at + length x) l, f) (simp (append-assoc, length-append, add-assoc))
 
 -- The words from `i` on are still to be put at `at`, and give what all of them give from `begin` on.
@@ -227,7 +229,8 @@ module _ {words from : List ℕ} {begin i at : ℕ} {buffer : List ℕ} (w : Put
           left = rw (s .end, s .bytes) (put-put buffer at _ _ f ∙ rw (← more) (w .left));
           room = rw (s .end, s .bytes, l) (let v = w .room in omega arith);
           upto = omega arith;
-          long = ap length (s .bytes) ∙ l ∙ w .long }
+          long = ap length (s .bytes) ∙ l ∙ w .long;
+        }
 
 -- What the words of an accepted list are.
 pub record Worded (n : ℕ) (words : List ℕ) (ls : List Link) : Type 0 where
@@ -257,20 +260,13 @@ words-accepted n (a ∷ b ∷ ws) ls e =
       sound = (f, g, h, w .sound);
       same = rw (w .same) refl;
       bytes = rw (w .bytes) refl;
-      below = below-two n a b ws f g (w .below) } in
+      below = below-two n a b ws f g (w .below);
+    } in
     rw y at it
 
-sized-gives : (n : ℕ) (words : List ℕ) (ls : List Link) → sized n (wordLinks n words) ≡ gives ls
-  → (n ≡ 0 → ⊥) × (n ≤ fragmentsMost) × (wordLinks n words ≡ gives ls)
-unfolding sized
-sized-gives n words ls e =
-    let (f, q) = pick-gives (eqb n 0) 1 0 _ ls e in
-    let (g, r) = pick-gives (ltb fragmentsMost n) 1 0 _ ls q in
-    (eqb-false n 0 f, ltb-false fragmentsMost n g, r)
-
 store-refused : (n : ℕ) (buffer : List ℕ) (number place : ℕ) (x : Answer (List Link))
-  → (andThen x λ ls. gives (length (writtenList n ls))) ≡ refuses number place
-  → record { answer = refuses number place; buffer = buffer } ≡ storeList n buffer x
+    → (andThen x λ ls. gives (length (writtenList n ls))) ≡ refuses number place
+    → record { answer = refuses number place; buffer = buffer } ≡ storeList n buffer x
 unfolding andThen storeList
 store-refused n buffer number place (gives ls) p = absurd (never-both refl p)
 store-refused n buffer number place (refuses k q) p =
@@ -281,7 +277,7 @@ store-refused n buffer number place (refuses k q) p =
 -- The writer's answers by the list's size.
 module _ (n : ℕ) (words buffer : List ℕ) where
   pub write-refused : (number place : ℕ) → listSize n words ≡ refuses number place
-    → record { answer = refuses number place; buffer = buffer } ≡ writeList n words buffer
+      → record { answer = refuses number place; buffer = buffer } ≡ writeList n words buffer
   unfolding writeList listSize
   write-refused number place e = store-refused n buffer number place (sized n (wordLinks n words)) e
 
@@ -293,19 +289,20 @@ module _ (n : ℕ) (words buffer : List ℕ) where
 
     same : writtenNumber n ++ writtenWords words ≡ writtenList n ls
     unfolding writtenList
-    same = rw (words-accepted n words ls (sized-gives n words ls e .2) .bytes) refl
+    same = rw (words-accepted n words ls (sized-gives n (wordLinks n words) ls e .2) .bytes) refl
 
     module _ (h : size ≤ length buffer) where
       room : Room n words buffer
       room =
-          let (f, g, q) = sized-gives n words ls e in
+          let (f, g, q) = sized-gives n (wordLinks n words) ls e in
           record {
             first = omega arith;
             most = λ i. omega (arith, words-accepted n words ls q .below i);
-            room = rw same (omega arith) }
+            room = rw same (omega arith);
+          }
 
       finished : (after : List ℕ) → after ≡ put buffer 0 (writtenNumber n ++ writtenWords words)
-        → record { answer = gives size; buffer = after } ≡ writeList n words buffer
+          → record { answer = gives size; buffer = after } ≡ writeList n words buffer
       unfolding writeList storeList
       finished after y = rw (e, z, y, same) (let k : length (writtenList n ls) ≤ length buffer = omega arith in simp tests)
 
@@ -314,12 +311,13 @@ module _ (n : ℕ) (words buffer : List ℕ) where
     unfolding listSize
     accepted = let (ls, p, q) = andThen-gives (sized n (wordLinks n words)) _ size e in (ls, p, cc)
 
-    pub write-short : length buffer < size → record { answer = refuses 3 0; buffer = buffer } ≡ writeList n words buffer
-    write-short h = short size (accepted .0) (accepted .1) (accepted .2) h
+    pub write-short : length buffer < size → (answer : Answer ℕ) → answer ≡ refuses 3 0
+        → record { answer = answer; buffer = buffer } ≡ writeList n words buffer
+    write-short h answer z = rw z (short size (accepted .0) (accepted .1) (accepted .2) h)
 
     pub write-room : size ≤ length buffer → Room n words buffer
     write-room h = room size (accepted .0) (accepted .1) (accepted .2) h
 
     pub write-done : size ≤ length buffer → (after : List ℕ) → after ≡ put buffer 0 (writtenNumber n ++ writtenWords words)
-      → record { answer = gives size; buffer = after } ≡ writeList n words buffer
+        → record { answer = gives size; buffer = after } ≡ writeList n words buffer
     write-done h after z = finished size (accepted .0) (accepted .1) (accepted .2) h after z

@@ -2,10 +2,11 @@
 ghost use mathlib.Core.Path.{_≡_};
 ghost use mathlib.Core.List.{_++_};
 ghost use lib.ListN.{length};
+ghost use Rattle.base.specs.Answer.{refuses};
 ghost use Rattle.numbers.specs.Number.{writtenNumber, put};
 ghost use Rattle.numbers.specs.Told.{toldEnd, wrote};
-ghost use Rattle.lists.specs.List.{readEnds, readLink, scanBlock, readList, cutBlock, writeList};
-ghost use Rattle.lists.specs.Scan.{badEnds, scanFrom};
+ghost use Rattle.lists.specs.List.{noSize, readEnds, readLink, scanBlock, readList, cutBlock, writeList};
+ghost use Rattle.lists.specs.Scan.{badEnds, badLink, scanFrom, scanEnd};
 ghost use Rattle.lists.specs.Write.{answerOr, widthOf, listSize, Fitting, writtenWords, Stored, Room};
 ghost use Rattle.lists.specs.Told.{toldLink, toldCount, toldList};
 use numbers::Read;
@@ -48,6 +49,13 @@ fn ends_at(block: &[u8], at: usize) -> Link
     }
 }
 
+// No list has n fragments.
+fn bad_size(n: u32) -> bool
+    ensures { λ r. ⌜ r ≡ noSize n ⌝ }
+{
+    n == 0 || n > FRAGMENTS_MOST
+}
+
 // What is wrong with the ends of a link: refusal 4 or 5, or nothing, 0.
 fn bad_ends(n: u32, a: u32, b: u32) -> u32
     ensures { λ r. ⌜ r ≡ badEnds n a b ⌝ }
@@ -64,22 +72,30 @@ fn bad_ends(n: u32, a: u32, b: u32) -> u32
     0
 }
 
+// What is wrong with a link whose numbers were read: refusal 4, 5 or 12, or nothing, 0.
+fn bad_link(n: u32, entries: u32, a: u32, b: u32) -> u32
+    ensures { λ r. ⌜ r ≡ badLink n entries a b ⌝ }
+{
+    let bad = bad_ends(n, a, b);
+    if bad != 0 {
+        return bad;
+    }
+    if entries >= ENTRIES_MOST {
+        return 12;
+    }
+    0
+}
+
 // The link that begins at byte `at` of a block, where `entries` came before it in the pass.
 pub fn link_at(n: u32, entries: u32, block: &[u8], at: usize) -> Link
     ensures { λ r. ⌜ toldLink r ≡ readLink n entries (now (block .entry)) at ⌝ }
 {
     match ends_at(block, at) {
         Link::Ends(a, b, next) => {
-            let bad = bad_ends(n, a, b);
+            let bad = bad_link(n, entries, a, b);
             if bad != 0 {
                 return Link::Refused(Refusal {
                     number: bad,
-                    place: at,
-                });
-            }
-            if entries >= ENTRIES_MOST {
-                return Link::Refused(Refusal {
-                    number: 12,
                     place: at,
                 });
             }
@@ -90,6 +106,19 @@ pub fn link_at(n: u32, entries: u32, block: &[u8], at: usize) -> Link
             place: at,
         }),
     }
+}
+
+// The answer of a scan: what is bad with the link at `at`, or, where that is 0, the count.
+fn answered(bad: u32, at: usize, count: u32) -> Scanned
+    ensures { λ r. ⌜ toldCount r ≡ scanEnd bad at count ⌝ }
+{
+    if bad != 0 {
+        return Scanned::Refused(Refusal {
+            number: bad,
+            place: at,
+        });
+    }
+    Scanned::Links(count)
 }
 
 // The number of links from byte `from` on.
@@ -118,24 +147,14 @@ fn scan_from(n: u32, entries: u32, block: &[u8], from: usize) -> Scanned
                 }
             }
         }
-        bad = bad_ends(n, first, second);
+        bad = bad_link(n, told, first, second);
         if bad != 0 {
-            break 'links;
-        }
-        if told >= ENTRIES_MOST {
-            bad = 12;
             break 'links;
         }
         told += 1;
         at = next;
     }
-    if bad != 0 {
-        return Scanned::Refused(Refusal {
-            number: bad,
-            place: at,
-        });
-    }
-    Scanned::Links(told - entries)
+    answered(bad, at, told - entries)
 }
 
 // The number of links of a block, where `entries` came before it in the pass.
@@ -151,13 +170,7 @@ pub fn read_list(file: &[u8]) -> Listed
 {
     match numbers::read_number(file, 0) {
         Read::Number(n, begins) => {
-            if n == 0 {
-                return Listed::Refused(Refusal {
-                    number: 1,
-                    place: 0,
-                });
-            }
-            if n > FRAGMENTS_MOST {
+            if bad_size(n) {
                 return Listed::Refused(Refusal {
                     number: 1,
                     place: 0,
@@ -192,6 +205,15 @@ pub fn cut(part: &[u8]) -> usize
     }
 }
 
+fn not_written(number: u32) -> Written
+    ensures { λ r. ⌜ toldEnd r ≡ refuses number 0 ⌝ }
+{
+    Written::Refused(Refusal {
+        number: number,
+        place: 0,
+    })
+}
+
 // Where the writer ended, or `other` where it refused.
 fn end_or(written: Written, other: usize) -> usize
     ensures { λ r. ⌜ r ≡ answerOr (toldEnd written) other ⌝ }
@@ -215,17 +237,8 @@ fn width(value: u32) -> usize
 fn list_size(n: u32, words: &[u32]) -> Written
     ensures { λ r. ⌜ toldEnd r ≡ listSize n (now (words .entry)) ⌝ }
 {
-    if n == 0 {
-        return Written::Refused(Refusal {
-            number: 1,
-            place: 0,
-        });
-    }
-    if n > FRAGMENTS_MOST {
-        return Written::Refused(Refusal {
-            number: 1,
-            place: 0,
-        });
+    if bad_size(n) {
+        return not_written(1);
     }
     let mut size = width(n);
     let mut i: usize = 0;
@@ -234,19 +247,13 @@ fn list_size(n: u32, words: &[u32]) -> Written
         let b = words[i + 1];
         let bad = bad_ends(n, a, b);
         if bad != 0 {
-            return Written::Refused(Refusal {
-                number: bad,
-                place: 0,
-            });
+            return not_written(bad);
         }
         size += width(a) + width(b);
         i += 2;
     }
     if i < words.len() {
-        return Written::Refused(Refusal {
-            number: 8,
-            place: 0,
-        });
+        return not_written(8);
     }
     Written::End(size)
 }
@@ -280,10 +287,7 @@ pub fn write_list(n: u32, words: &[u32], buffer: &mut [u8]) -> Written
     match list_size(n, words) {
         Written::End(size) => {
             if buffer.len() < size {
-                return Written::Refused(Refusal {
-                    number: 3,
-                    place: 0,
-                });
+                return not_written(3);
             }
             put_list(n, words, buffer);
             Written::End(size)

@@ -1,23 +1,19 @@
+-- `lists::bad_ends` meets its contract: each answer by its tests.
+-- Assumes nothing.
 use native.Mathlib.Omega.{arith}
 use Rattle.lists.specs.Scan.{bad-first, bad-second, bad-same, bad-none}
 use Rattle.lists.proofs.bad_ends.Statement.{statement}
 use Rattle.lists.proofs.bad_ends.Tie as tie
-use Rattle.lists.proofs.bad_ends.Reads as reads
-use Rattle.lists.proofs.bad_ends.Lts as lts
 
--- src/lib.rt:52:9
 returns : tie.Need-returns
 returns c = bad-first _ _ _ (omega arith)
 
--- src/lib.rt:55:9
 returns-2 : tie.Need-returns-2
 returns-2 c = bad-second _ _ _ (omega arith) (omega arith)
 
--- src/lib.rt:58:9
 returns-3 : tie.Need-returns-3
 returns-3 c = bad-same _ _ _ (omega arith) (omega arith) (omega arith)
 
--- src/lib.rt:48:1
 returns-4 : tie.Need-returns-4
 returns-4 c = bad-none _ _ _ (omega arith) (omega arith) (omega arith)
 

@@ -1,3 +1,5 @@
+-- `lists::cut` meets its contract: the cut is the same from every link on.
+-- Assumes nothing.
 use borrow.Author.Needs.{needs}
 use mathlib.Core.Path.{_≡_, refl, sym, ap, _∙_}
 use Prim.Native.Nat.{_-_}
@@ -9,9 +11,6 @@ use Rattle.lists.specs.Link.{ends-of, ends-not-of, ends-within}
 use Rattle.lists.specs.File.{cut-on, cut-here, cut-all}
 use Rattle.lists.proofs.cut.Statement.{statement}
 use Rattle.lists.proofs.cut.Tie as tie
-use Rattle.lists.proofs.cut.Reads as reads
-use Rattle.lists.proofs.cut.Lts as lts
-use Rattle.lists.proofs.ends_at.Reads as ends-at-reads
 
 abbrev Inv-loop : tie.InvT-loop
 Inv-loop part at₀ at = cutAt part at ≡ cutBlock part
@@ -19,36 +18,19 @@ Inv-loop part at₀ at = cutAt part at ≡ cutBlock part
 abbrev μ-loop : tie.MeasureT-loop
 μ-loop part at₀ at = length part - at
 
--- src/lib.rt:176:5
 loop-holds : tie.Need-loop-holds Inv-loop μ-loop
 unfolding cutBlock
 loop-holds c = refl
 
--- src/lib.rt:177:15
-ends-at-requires : tie.Need-ends-at-requires Inv-loop μ-loop
-ends-at-requires c κs = search needs
-
--- src/lib.rt:178:30
-enum-known-next : tie.Need-enum-known-next Inv-loop μ-loop
-enum-known-next c = search needs
-
--- src/lib.rt:176:5
 loop-less : tie.Need-loop-less Inv-loop μ-loop
 loop-less c = let w = ends-within (ends-of _ _ _ (sym (c .before .before .before .ends-at .ensures) ∙ ap toldLink (c .before .next .given .1))) in omega arith
 
--- src/lib.rt:176:5
 loop-again : tie.Need-loop-again Inv-loop μ-loop
 loop-again c = cut-on (ends-of _ _ _ (sym (c .before .before .before .ends-at .ensures) ∙ ap toldLink (c .before .next .given .1))) ∙ c .before .before .before .before .loop .inv
 
--- src/lib.rt:181:27
-enum-known-r : tie.Need-enum-known-r Inv-loop μ-loop
-enum-known-r c = search needs
-
--- src/lib.rt:183:21
 returns : tie.Need-returns Inv-loop μ-loop
 returns c = cut-here (ends-not-of _ _ _ _ (sym (c .before .before .before .before .before .ends-at .ensures) ∙ ap toldLink (c .before .before .before .r .given .1))) (c .if1 .taken) ∙ c .before .before .before .before .before .before .loop .inv
 
--- src/lib.rt:185:17
 returns-2 : tie.Need-returns-2 Inv-loop μ-loop
 returns-2 c = cut-all (ends-not-of _ _ _ _ (sym (c .before .before .before .before .before .ends-at .ensures) ∙ ap toldLink (c .before .before .before .r .given .1))) (c .if1 .left) ∙ c .before .before .before .before .before .before .loop .inv
 
@@ -59,10 +41,10 @@ cut-spec =
     Inv-loop
     μ-loop
     loop-holds
-    ends-at-requires
-    enum-known-next
+    (λ c κs. search needs)
+    (λ c. search needs)
     loop-less
     loop-again
-    enum-known-r
+    (λ c. search needs)
     returns
     returns-2)

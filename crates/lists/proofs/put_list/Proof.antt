@@ -1,3 +1,5 @@
+-- `lists::put_list` meets its contract: the words from `i` on, put at `at`, give what all of them give.
+-- Assumes nothing.
 use borrow.Author.Needs.{needs}
 use mathlib.Core.Path.{_∙_}
 use Prim.Native.Nat.{_-_}
@@ -5,9 +7,6 @@ use lib.ListN.{length}
 use Rattle.lists.specs.Write.{Putting, putting-fits, putting-long, putting-starts, putting-whole, putting-ends, putting-more, putting-on}
 use Rattle.lists.proofs.put_list.Statement.{statement}
 use Rattle.lists.proofs.put_list.Tie as tie
-use Rattle.lists.proofs.put_list.Reads as reads
-use Rattle.lists.proofs.put_list.Lts as lts
-use Rattle.lists.proofs.put_number.Reads as put-number-reads
 
 abbrev Inv-loop : tie.InvT-loop
 Inv-loop n words buffer₀ at₀ i₀ buffer at i = Putting words buffer₀ at₀ i at buffer
@@ -15,43 +14,21 @@ Inv-loop n words buffer₀ at₀ i₀ buffer at i = Putting words buffer₀ at�
 abbrev μ-loop : tie.MeasureT-loop
 μ-loop n words buffer₀ at₀ i₀ buffer at i = length words - i
 
--- src/lib.rt:269:9
 put-number-requires : tie.Need-put-number-requires Inv-loop μ-loop
 put-number-requires c κs = putting-fits (c .before .before .before .pre)
 
--- src/lib.rt:271:5
 loop-holds : tie.Need-loop-holds Inv-loop μ-loop
 loop-holds c = putting-starts (c .before .before .before .before .before .before .pre) (c .before .before .put-number .ensures)
 
--- src/lib.rt:272:25
-mul-put-number : tie.Need-mul-put-number Inv-loop μ-loop
-mul-put-number c = search needs
-
--- src/lib.rt:272:25
-shared-slice-read-put-number : tie.Need-shared-slice-read-put-number Inv-loop μ-loop
-shared-slice-read-put-number c = search needs
-
--- src/lib.rt:272:9
 put-number-requires-2 : tie.Need-put-number-requires-2 Inv-loop μ-loop
 put-number-requires-2 c κs = putting-more (c .before .before .before .loop .inv) (c .before .before .loop-test .taken) (c .before .before .before .before .before .before .before .before .before .before .pre .most _)
 
--- src/lib.rt:273:9
-add-i : tie.Need-add-i Inv-loop μ-loop
-add-i c = search needs
-
--- src/lib.rt:271:5
-loop-less : tie.Need-loop-less Inv-loop μ-loop
-loop-less c = search needs
-
--- src/lib.rt:271:5
 loop-again : tie.Need-loop-again Inv-loop μ-loop
 loop-again c = putting-on (c .before .before .before .before .before .before .loop .inv) (c .before .before .before .before .before .loop-test .taken) _ _ (c .before .before .put-number2 .ensures)
 
--- src/lib.rt:265:1
 same-length : tie.Need-same-length Inv-loop μ-loop
 same-length c = c .before .loop .inv .long ∙ putting-long (c .before .before .before .before .before .before .before .before .pre) (c .before .before .before .before .put-number .ensures)
 
--- src/lib.rt:265:1
 returns : tie.Need-returns Inv-loop μ-loop
 returns c = putting-ends (c .before .loop .inv) (c .loop-test .left) ∙ putting-whole (c .before .before .before .before .before .before .before .before .pre) (c .before .before .before .before .put-number .ensures)
 
@@ -63,11 +40,11 @@ put-list-spec =
     μ-loop
     put-number-requires
     loop-holds
-    mul-put-number
-    shared-slice-read-put-number
+    (λ c. search needs)
+    (λ c. search needs)
     put-number-requires-2
-    add-i
-    loop-less
+    (λ c. search needs)
+    (λ c. search needs)
     loop-again
     same-length
     returns)
