@@ -9,6 +9,12 @@ use Rattle.base.specs.Pick.{pick}
 use Rattle.base.specs.Answer.{Answer, gives, refuses}
 use Rattle.lists.specs.List.{blockLinks}
 use Rattle.rules.specs.Links.{Link}
+use Rattle.rules.specs.Tables.{Tables, fresh, cleared}
+use Rattle.rules.specs.Building.{buildLinks, passes}
+use Rattle.rules.specs.Reading.{readLinks}
+use Rattle.rules.specs.Adopting.{adopted}
+use Rattle.state.specs.Layout.{tablesIn}
+use Rattle.state.specs.Test.{isBuilding}
 use Rattle.state.specs.Call.{Begun, Left}
 use Rattle.state.specs.Start.{startCall}
 use Rattle.state.specs.Adopt.{adoptCall}
@@ -118,3 +124,30 @@ calledCloses (begins f h s e) = 0
 calledCloses (goes r (take block)) = calledCloses r
 calledCloses (goes r close) = suc (calledCloses r)
 calledCloses (goes r openReading) = calledCloses r
+
+-- What the rules make of what was told: of the passes closed since the first call a forest,
+abbrev pub fragments : Origin → ℕ
+fragments (start n k) = n
+fragments (adopt n k ps) = n
+
+abbrev pub roomFor : Origin → ℕ
+roomFor (start n k) = k
+roomFor (adopt n k ps) = k
+
+abbrev pub firstTables : Origin → Tables
+firstTables (start n k) = fresh n
+firstTables (adopt n k ps) = adopted n ps
+
+unfoldable pub forestOf : Origin → List (List Link) → Tables
+forestOf o told = passes (fragments o) (roomFor o) (firstTables o) told
+
+-- and of the pass under way the tables that go with it.
+unfoldable pub tablesOf : Origin → Moment → Tables
+tablesOf o m =
+    pick (isBuilding (m .state .stage))
+    (buildLinks (fragments o) (roomFor o) (forestOf o (m .told)) (m .telling))
+    (readLinks (cleared (fragments o) (forestOf o (m .told))) (m .telling))
+
+-- What the state and the tables of a moment hold.
+abbrev pub tablesAt : Moment → Tables
+tablesAt m = tablesIn (m .state) (m .frag) (m .held)
