@@ -1,3 +1,4 @@
 pub mod Run
 pub mod Known
 pub mod Steps
+pub mod Runs
