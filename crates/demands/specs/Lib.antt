@@ -2,3 +2,5 @@ pub mod Run
 pub mod Known
 pub mod Steps
 pub mod Runs
+pub mod Lost
+pub mod Refusals
