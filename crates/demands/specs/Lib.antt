@@ -4,3 +4,4 @@ pub mod Steps
 pub mod Runs
 pub mod Lost
 pub mod Refusals
+pub mod Results
