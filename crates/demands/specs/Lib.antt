@@ -1,7 +1,10 @@
 pub mod Run
+pub mod Claims
 pub mod Known
 pub mod Steps
 pub mod Runs
-pub mod Lost
 pub mod Refusals
 pub mod Results
+pub mod Counts
+pub mod Answers
+pub mod Demands

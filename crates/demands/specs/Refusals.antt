@@ -33,7 +33,7 @@ use Rattle.state.specs.Laws.KeepsTables.{reads-settled}
 use Rattle.state.specs.declared.State.{State}
 use Rattle.state.specs.declared.Stage.{Stage}
 use Rattle.state.specs.declared.Stage.the-variants.{Building, Built, Reading, Read}
-use Rattle.demands.specs.Lost.{NotesLost}
+use Rattle.demands.specs.Claims.{NotesLost}
 
 none-held : (l : List Link) → length l ≡ 0 → l ≡ []
 none-held [] e = refl
@@ -192,48 +192,51 @@ two-cases n a b = elim (decLt a n) [
 ]
 
 -- The refusals of every call where the test is passed: never 11.
-module _ (P : ℕ → Type 0) (p4 : P 4) (p5 : P 5) (p6 : P 6) (p7 : P 7) (p8 : P 8) (p9 : P 9) (p12 : P 12) (s : State) (f h : List ℕ) (p : Passes s f h) where
-  headed-only : {A : Type 0} (allowed : Stage → Bool) (rest : Left A) → (T (allowed (s .stage)) → Only P (rest .answer)) → Only P (headed allowed s f h rest .answer)
+abbrev pub Other : ℕ → Type 0
+Other number = number ≢ 11
+
+module _ (s : State) (f h : List ℕ) (p : Passes s f h) where
+  headed-only : {A : Type 0} (allowed : Stage → Bool) (rest : Left A) → (T (allowed (s .stage)) → Only Other (rest .answer)) → Only Other (headed allowed s f h rest .answer)
   headed-only allowed rest q = elim (T-dec (allowed (s .stage))) [
     | yes a ↦ rw (headed-on allowed s f h p a rest) (q a)
-    | no a ↦ rw (headed-off allowed s f h p a rest) p6
+    | no a ↦ rw (headed-off allowed s f h p a rest) (omega arith)
   ]
 
-  taken-only : (x : Answer (List Link)) → Only P x → Only P (taken s f h x .answer)
+  taken-only : (x : Answer (List Link)) → Only Other x → Only Other (taken s f h x .answer)
   unfolding taken leaves
   taken-only (gives g) q = tt
   taken-only (refuses number place) q = q
 
-  pub take-only : (block : List ℕ) → Only P (takeCall s f h block .answer)
+  pub take-only : (block : List ℕ) → Only Other (takeCall s f h block .answer)
   unfolding takeCall takeIn
-  take-only block = headed-only takes _ (λ a. taken-only (blockLinks (s .n) (s .entries) block) (block-only P p4 p5 p7 p8 p12 (s .n) (s .entries) block))
+  take-only block = headed-only takes _ (λ a. taken-only (blockLinks (s .n) (s .entries) block) (block-only Other (omega arith) (omega arith) (omega arith) (omega arith) (omega arith) (s .n) (s .entries) block))
 
-  pub open-only : Only P (openCall s f h .answer)
+  pub open-only : Only Other (openCall s f h .answer)
   unfolding openCall leaves
   open-only = headed-only opens _ (λ a. tt)
 
   abbrev Ends : Left Ending → Type 0
-  Ends l = Only P (l .answer)
+  Ends l = Only Other (l .answer)
 
-  pub close-only : Only P (closeCall s f h .answer)
+  pub close-only : Only Other (closeCall s f h .answer)
   unfolding closeCall closeIn endBuilding endReading leaves
-  close-only = headed-only takes _ (λ a. pick-all Ends _ _ _ (pick-all Ends _ _ _ tt tt) (pick-all Ends _ _ _ tt p9))
+  close-only = headed-only takes _ (λ a. pick-all Ends _ _ _ (pick-all Ends _ _ _ tt tt) (pick-all Ends _ _ _ tt (omega arith)))
 
   module _ {A : Type 0} (allowed : Stage → Bool) (x : A) where
-    pub one-only : (v : ℕ) → Only P (askOne allowed s f h v x)
+    pub one-only : (v : ℕ) → Only Other (askOne allowed s f h v x)
     one-only v = elim (T-dec (allowed (s .stage))) [
       | yes a ↦ elim (decLt v (s .n)) [
         | yes l ↦ rw (one-given allowed s f h p v x a l) tt
-        | no l ↦ rw (one-far allowed s f h p v x a (omega arith)) p4
+        | no l ↦ rw (one-far allowed s f h p v x a (omega arith)) (omega arith)
       ]
-      | no a ↦ rw (one-off allowed s f h p v x a) p6
+      | no a ↦ rw (one-off allowed s f h p v x a) (omega arith)
     ]
 
-    pub two-only : (a b : ℕ) → Only P (askTwo allowed s f h a b x)
+    pub two-only : (a b : ℕ) → Only Other (askTwo allowed s f h a b x)
     two-only a b = elim (T-dec (allowed (s .stage))) [
       | yes c ↦ elim (two-cases (s .n) a b) [
-        | inl z ↦ rw (two-far allowed s f h p a b x c z) p4
-        | inr (l, i, z) ↦ elim z [ yes e ↦ rw (two-same allowed s f h p a b x c l i e) p5 | no d ↦ rw (two-given allowed s f h p a b x c l i d) tt ]
+        | inl z ↦ rw (two-far allowed s f h p a b x c z) (omega arith)
+        | inr (l, i, z) ↦ elim z [ yes e ↦ rw (two-same allowed s f h p a b x c l i e) (omega arith) | no d ↦ rw (two-given allowed s f h p a b x c l i d) tt ]
       ]
-      | no c ↦ rw (two-off allowed s f h p a b x c) p6
+      | no c ↦ rw (two-off allowed s f h p a b x c) (omega arith)
     ]

@@ -20,6 +20,7 @@ use Rattle.state.specs.Start.{startCall}
 use Rattle.state.specs.Adopt.{adoptCall}
 use Rattle.state.specs.Take.{takeCall}
 use Rattle.state.specs.Close.{Ending, more, whole, read, openCall, closeCall}
+use Rattle.state.specs.Ask.{parentCall, levelCall, pieceCall, cutCall, soleCall}
 use Rattle.state.specs.declared.State.{State}
 
 -- The call that a run begins with.
@@ -93,6 +94,23 @@ closeAt m = closeCall (m .state) (m .frag) (m .held)
 abbrev pub openAt : Moment → Left (Unit {0})
 openAt m = openCall (m .state) (m .frag) (m .held)
 
+-- The questions at a moment.
+abbrev pub parentAt : Moment → ℕ → Answer ℕ
+parentAt m v = parentCall (m .state) (m .frag) (m .held) v
+
+abbrev pub levelAt : Moment → ℕ → Answer ℕ
+levelAt m v = levelCall (m .state) (m .frag) (m .held) v
+
+abbrev pub pieceAt : Moment → ℕ → Answer ℕ
+pieceAt m v = pieceCall (m .state) (m .frag) (m .held) v
+
+abbrev pub cutAt : Moment → ℕ → Answer Bool
+cutAt m v = cutCall (m .state) (m .frag) (m .held) v
+
+abbrev pub soleAt : Moment → ℕ → ℕ → Answer Bool
+soleAt m a b = soleCall (m .state) (m .frag) (m .held) a b
+
+-- What a call leaves of a moment.
 unfoldable pub step : Moment → Call → Moment
 step m (take block) = afterTake m (blockLinks (m .state .n) (m .state .entries) block) (takeAt m block)
 step m close = afterClose m (closeAt m)

@@ -225,7 +225,7 @@ module _ {o : Origin} {m : Moment} (H : Holds o m) where
   ]
 
 -- The first call.
-given-same : {A : Type 0} {x y : A} → gives x ≡ gives y → x ≡ y
+pub given-same : {A : Type 0} {x y : A} → gives x ≡ gives y → x ≡ y
 given-same e = cc
 
 module _ (o : Origin) (b : Begun) (s : State) (e : b .answer ≡ gives s) (p : Passes s (b .frag) (b .held)) (R : Rested (fragments o) (firstTables o)) where
