@@ -4,7 +4,7 @@ use Prim.Native.Nat.{ℕ, suc, _+_, _-_, _/_, _≤_, _<_}
 use mathlib.Core.Path.{_≡_, refl, sym, ap, _∙_, subst}
 use mathlib.Core.Bool.{Bool, true, false, _||_}
 use mathlib.Core.List.{List, [], _∷_, _++_}
-use mathlib.Core.Logic.{_⊎_, inl, inr}
+use mathlib.Core.Logic.{inl, inr, _↔_}
 use native.Mathlib.Omega.{arith}
 use lib.Dec.{T}
 use lib.ListN.{length, length-append}
@@ -13,9 +13,15 @@ use Rattle.base.specs.Answer.{Answer, gives, refuses}
 use Rattle.base.specs.Truth.{or-cases, T-dec}
 use Rattle.lists.specs.List.{blockLinks}
 use Rattle.lists.specs.Link.{answered}
-use Rattle.rules.specs.Links.{Link}
-use Rattle.rules.specs.Building.{closeBuilding, done}
+use Rattle.rules.specs.Links.{Link, linked}
+use Rattle.rules.specs.Forest.{DepthFirst}
+use Rattle.rules.specs.Tables.{par}
+use Rattle.rules.specs.Building.{closeBuilding, done, passes}
 use Rattle.rules.specs.Reading.{accepted}
+use Rattle.rules.specs.Adopting.{parentIn}
+use Rattle.rules.specs.Laws.Tables.{same-par}
+use Rattle.rules.specs.Laws.Adopting.{adopted-par}
+use Rattle.rules.specs.Laws.Append.{depth-first-same}
 use Rattle.state.specs.Test.{isBuilding, isReading}
 use Rattle.state.specs.Call.{Begun, moved}
 use Rattle.state.specs.Adopt.{adoptedState, adoptCall}
@@ -25,10 +31,10 @@ use Rattle.state.specs.Laws.KeepsBegun.{adopt-makes}
 use Rattle.state.specs.declared.State.{State}
 use Rattle.state.specs.declared.Stage.{Stage}
 use Rattle.state.specs.declared.Stage.the-variants.{Building, Built, Reading, Read}
-use Rattle.demands.specs.Run.{Origin, start, adopt, Call, take, close, openReading, Moment, tablesAt, afterTake, afterClose, afterOpen, closeAt, endsBuilding, step, begunBy, opening, Run, begins, goes, acceptedCloses, calledCloses}
+use Rattle.demands.specs.Run.{Origin, start, adopt, Call, take, close, openReading, Moment, tablesAt, afterTake, afterClose, afterOpen, closeAt, endsBuilding, step, begunBy, opening, Run, begins, goes, acceptedCloses, calledCloses, forestOf}
 use Rattle.demands.specs.Steps.{Leads, take-off, take-bad, take-on, open-off, open-on, close-off, whole-on, more-on, read-on, false-on}
 use Rattle.demands.specs.Runs.{Holds, given-same, adopt-accepted, run-holds}
-use Rattle.demands.specs.Results.{below-ceiling, below-more}
+use Rattle.demands.specs.Results.{forest-at, below-ceiling, below-more}
 
 abbrev Settled : Moment → Type 0
 Settled m = T (isBuilding (m .state .stage)) → ⊥
@@ -121,3 +127,17 @@ adopted-settled (goes r c) =
     let (b, t) = adopted-settled r in
     let (d, u) = settled-stays (run-holds r) b c in
     (d, u ∙ t)
+
+-- Its parents are those that were given.
+module _ {n k : ℕ} {ps : List ℕ} {m : Moment} (r : Run (adopt n k ps) m) where
+  adopted-parents : (v : ℕ) → v < n → par (tablesAt m) v ≡ parentIn ps v
+  unfolding forestOf passes
+  adopted-parents v l =
+      let (b, e) = adopted-settled r in
+      ap (λ (p : ℕ → ℕ). p v) (same-par (forest-at (run-holds r) b)) ∙ ap (λ (gs : List (List Link)). par (forestOf (adopt n k ps) gs) v) e ∙ adopted-par n ps v l
+
+  pub adopted-forest : DepthFirst n (par (tablesAt m)) (linked (m .telling)) ↔ DepthFirst n (parentIn ps) (linked (m .telling))
+  adopted-forest = (
+    (λ d. depth-first-same n (par (tablesAt m)) (parentIn ps) adopted-parents (d .inside) _ (run-holds r .among) d),
+    (λ d. depth-first-same n (parentIn ps) (par (tablesAt m)) (λ v l. sym (adopted-parents v l)) (d .inside) _ (run-holds r .among) d),
+  )

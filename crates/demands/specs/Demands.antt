@@ -2,7 +2,7 @@
 -- that meets its premises (Met.antt).
 -- Assumes nothing.
 use Prim.Native.Nat.{ℕ, suc, _+_, _-_, _/_, _≤_, _<_}
-use mathlib.Core.Path.{_≡_, refl, sym, ap, _∙_}
+use mathlib.Core.Path.{_≡_, refl, sym, ap, _∙_, fun-ext}
 use mathlib.Core.List.{List, [], _∷_, _++_}
 use mathlib.Core.Logic.{_⊎_, inl, inr, _≢_, _↔_}
 use native.Mathlib.Omega.{arith}
@@ -22,8 +22,6 @@ use Rattle.rules.specs.Tables.{par}
 use Rattle.rules.specs.Reading.{accepted}
 use Rattle.rules.specs.Adopting.{parentIn}
 use Rattle.rules.specs.Laws.Partial.{Tells, Each}
-use Rattle.rules.specs.Laws.Append.{depth-first-same}
-use Rattle.state.specs.Call.{moved}
 use Rattle.state.specs.Start.{startCall}
 use Rattle.state.specs.Adopt.{adoptCall}
 use Rattle.state.specs.Take.{takeCall}
@@ -35,11 +33,10 @@ use Rattle.state.specs.Laws.KeepsTables.{reads-settled}
 use Rattle.state.specs.declared.State.{State}
 use Rattle.demands.specs.Run.{Origin, start, adopt, close, Moment, closeAt, parentAt, step, Run, goes, acceptedCloses, calledCloses, fragments, tablesOf, tablesAt}
 use Rattle.demands.specs.Claims.{InBuilding, InReading, InRead, NotesLost, Never, Truly, Alike}
-use Rattle.demands.specs.Steps.{read-on}
 use Rattle.demands.specs.Runs.{run-holds}
 use Rattle.demands.specs.Refusals.{take-unchanged, open-unchanged, close-loses}
-use Rattle.demands.specs.Results.{accepts-exactly, close-read, close-false, close-exactly, forest-finished, below-ceiling, below-more}
-use Rattle.demands.specs.Counts.{closes-told, within-ceiling, all-accepted, adopted-settled}
+use Rattle.demands.specs.Results.{read-next, accepts-exactly, close-read, close-false, close-exactly, forest-finished, below-ceiling, below-more}
+use Rattle.demands.specs.Counts.{closes-told, within-ceiling, all-accepted, adopted-settled, adopted-forest}
 use Rattle.demands.specs.Answers.{never-eleven, parent-asked, truly-at, alike-at}
 
 -- Demand 1. 'Every call, with every list, table and number, ends and touches nothing outside what was lent' is what the prover shows of every function;
@@ -100,7 +97,7 @@ demand-2-false {o} {m} r c =
 
 -- 'A forest from elsewhere is accepted exactly when this holds', of the parents as they were given.
 pub demand-2-adopted : {n k : ℕ} {ps : List ℕ} {m : Moment} → Run (adopt n k ps) m → InReading m → (closeAt m .answer ≡ gives read) ↔ DepthFirst n (parentIn ps) (linked (m .telling))
-demand-2-adopted r c = ?adopted
+demand-2-adopted r c = let (i, j) = demand-2-reading r c in let (p, q) = adopted-forest r in (λ e. p (i e), λ d. j (q d))
 
 -- 'Numbers are written and read back alike.'
 pub demand-2-numbers : (v : ℕ) (buffer : List ℕ) (at end : ℕ) → writeNumber v buffer at .answer ≡ gives end → readNumber (writeNumber v buffer at .buffer) at ≡ gives (record { value = v; next = end })
@@ -126,7 +123,9 @@ demand-3-ends r (inr l) b = omega (arith, all-accepted r b, below-more (run-hold
 
 -- 'Where every pass tells the same set of links, in any order, .. the reading pass accepts'
 pub demand-3-accepts : {n k : ℕ} {m : Moment} → Run (start n k) m → InReading m → (E : Links) → Each (Tells E) (m .told) → Tells E (m .telling) → closeAt m .answer ≡ gives read
-demand-3-accepts r c E e t = ?accepts
+demand-3-accepts {n} {k} {m} r c E e t =
+    let same : E ≡ linked (m .telling) = sym (fun-ext (λ u. fun-ext (t u))) in
+    demand-2-reading r c .1 (rw same at (demand-2-forest r (reads-settled (m .state .stage) c) E e))
 
 -- 'The pieces, sole links and cut fragments reported are then those that taking the link or fragment away would show.' In Read of every run, built or adopted.
 pub demand-3-truly : {o : Origin} {m : Moment} → Run o m → InRead m → Truly (fragments o) m
@@ -139,7 +138,12 @@ demand-3-alike r z = alike-at (run-holds r) (run-holds z)
 -- 'If passes told different lists, reading refuses or reports truly on the list it read last.'
 pub demand-3-whatever : {o : Origin} {m : Moment} → Run o m → InReading m
     → (closeAt m .answer ≡ refuses 9 0) ⊎ ((closeAt m .answer ≡ gives read) × (step m close .telling ≡ m .telling) × Truly (fragments o) (step m close))
-demand-3-whatever {o} {m} r c = ?whatever
+demand-3-whatever {o} {m} r c =
+    let H = run-holds r in
+    elim (T-dec (accepted (fragments o) (tablesAt m))) [
+      | no x ↦ inl (close-false H c x)
+      | yes x ↦ let (z, e) = read-next H c x in inr (close-read H c x, e, demand-3-truly (goes r close) z)
+    ]
 
 -- 'The count of passes in the state equals the number of closes accepted since the start, those of Building only; after adopt it is 0.'
 pub pass-count : {o : Origin} {m : Moment} (r : Run o m) → m .state .passes ≡ acceptedCloses r

@@ -18,7 +18,6 @@ use Rattle.rules.specs.Forest.{DepthFirst}
 use Rattle.rules.specs.Tables.{Tables, placed, par, fresh, cleared}
 use Rattle.rules.specs.Building.{buildLinks, done, passes}
 use Rattle.rules.specs.Reading.{readLinks, accepted, sole, cut, piece}
-use Rattle.rules.specs.Adopting.{parentIn, adopted}
 use Rattle.rules.specs.Laws.Facts.{Standing}
 use Rattle.rules.specs.Laws.Search.{every-at, every-intro}
 use Rattle.rules.specs.Laws.Tables.{SameForest, same-placed, same-par, placed-loose, fresh-loose}
@@ -27,16 +26,16 @@ use Rattle.rules.specs.Laws.Passes.{told-forest, result}
 use Rattle.rules.specs.Laws.Ceiling.{ceiling, ceiling-more}
 use Rattle.rules.specs.Laws.Reading.{read-forest}
 use Rattle.rules.specs.Laws.Reports.{SameReports, reading-exact, sole-exact, cut-exact, piece-exact, equal-reports}
-use Rattle.rules.specs.Laws.Adopting.{adopted-par}
-use Rattle.rules.specs.Laws.Append.{depth-first-same}
 use Rattle.state.specs.Layout.{tablesIn}
 use Rattle.state.specs.Test.{isBuilding, isReading, isRead}
+use Rattle.state.specs.Call.{moved}
 use Rattle.state.specs.Close.{read}
 use Rattle.state.specs.Laws.Keeps.{Passes}
 use Rattle.state.specs.Laws.KeepsLeft.{read-makes, false-makes}
 use Rattle.state.specs.Laws.KeepsTables.{reads-settled}
 use Rattle.state.specs.declared.Stage.{Stage}
-use Rattle.demands.specs.Run.{Origin, start, adopt, Moment, closeAt, Run, fragments, roomFor, firstTables, forestOf, tablesOf, tablesAt}
+use Rattle.demands.specs.Run.{Origin, start, close, Moment, closeAt, step, fragments, roomFor, firstTables, forestOf, tablesOf, tablesAt}
+use Rattle.demands.specs.Steps.{Leads, read-on}
 use Rattle.demands.specs.Runs.{Holds, bounds-at, agrees-at, some-room, forest-stands, building-tables, settled-tables}
 
 -- Done speaks of the forest alone.
@@ -108,6 +107,11 @@ module _ {o : Origin} {m : Moment} (H : Holds o m) where
           (λ e. elim (T-dec (accepted n (tablesAt m))) [ yes x ↦ A .0 x | no x ↦ absurd (never-both e (close-false x)) ]),
           (λ d. close-read (A .1 d)),
         )
+
+    -- An accepted one leads to Read, and keeps what it told.
+    pub read-next : T (accepted n (tablesAt m)) → T (isRead (step m close .state .stage)) × (step m close .telling ≡ m .telling)
+    unfolding moved
+    read-next x = let L = read-on m (H .tested) r (subst (λ (i : ℕ). T (accepted i (tablesAt m))) (sym (H .size)) x) in (rw (L .state) tt, L .as-telling)
 
 -- Built from the start.
 module _ {n k : ℕ} {m : Moment} (H : Holds (start n k) m) where
