@@ -2,9 +2,8 @@
 -- Assumes nothing.
 use Prim.Native.Nat.{ℕ, _≤_, _<_}
 use mathlib.Core.Path.{_≡_, refl, sym, ap, _∙_, subst}
-use mathlib.Core.Bool.{Bool, _||_, not}
 use mathlib.Core.List.{List}
-use mathlib.Core.Logic.{_⊎_, inl, inr, _≢_, _↔_}
+use mathlib.Core.Logic.{_⊎_, inl, inr, _≢_}
 use native.Mathlib.Omega.{arith}
 use native.Mathlib.Decide.{decLt}
 use lib.Dec.{T, not-T}
@@ -15,7 +14,7 @@ use Rattle.rules.specs.Reading.{accepted, piece, sole, cut}
 use Rattle.rules.specs.Laws.Tables.{par-placed}
 use Rattle.rules.specs.Laws.Reports.{SameReports}
 use Rattle.state.specs.Test.{isBuilding, isRead}
-use Rattle.state.specs.Ask.{asks, askOne, askTwo, parentCall, levelCall, pieceCall, cutCall, soleCall}
+use Rattle.state.specs.Ask.{asks, parentCall, levelCall, pieceCall, cutCall, soleCall}
 use Rattle.state.specs.declared.State.{State}
 use Rattle.state.specs.declared.Stage.{Stage}
 use Rattle.state.specs.declared.Stage.the-variants.{Building, Built, Reading, Read}

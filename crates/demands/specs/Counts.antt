@@ -1,15 +1,14 @@
 -- How a run counts its passes, and that Building once left is left for good.
 -- Assumes nothing.
 use Prim.Native.Nat.{ℕ, suc, _+_, _-_, _/_, _≤_, _<_}
-use mathlib.Core.Path.{_≡_, refl, sym, ap, _∙_, subst}
-use mathlib.Core.Bool.{Bool, true, false, _||_}
+use mathlib.Core.Path.{_≡_, refl, sym, ap, _∙_}
+use mathlib.Core.Bool.{Bool, true, false}
 use mathlib.Core.List.{List, [], _∷_, _++_}
 use mathlib.Core.Logic.{inl, inr, _↔_}
 use native.Mathlib.Omega.{arith}
 use lib.Dec.{T}
 use lib.ListN.{length, length-append}
 use Rattle.base.specs.Pick.{pick}
-use Rattle.base.specs.Answer.{Answer, gives, refuses}
 use Rattle.base.specs.Truth.{or-cases, T-dec}
 use Rattle.lists.specs.List.{blockLinks}
 use Rattle.lists.specs.Link.{answered}
@@ -23,16 +22,13 @@ use Rattle.rules.specs.Laws.Tables.{same-par}
 use Rattle.rules.specs.Laws.Adopting.{adopted-par}
 use Rattle.rules.specs.Laws.Append.{depth-first-same}
 use Rattle.state.specs.Test.{isBuilding, isReading}
-use Rattle.state.specs.Call.{Begun, moved}
-use Rattle.state.specs.Adopt.{adoptedState, adoptCall}
+use Rattle.state.specs.Call.{moved}
+use Rattle.state.specs.Adopt.{adoptedState}
 use Rattle.state.specs.Take.{takes}
 use Rattle.state.specs.Close.{opens}
 use Rattle.state.specs.Laws.KeepsBegun.{adopt-makes}
-use Rattle.state.specs.declared.State.{State}
-use Rattle.state.specs.declared.Stage.{Stage}
-use Rattle.state.specs.declared.Stage.the-variants.{Building, Built, Reading, Read}
 use Rattle.demands.specs.Run.{Origin, start, adopt, Call, take, close, openReading, Moment, tablesAt, afterTake, afterClose, afterOpen, closeAt, endsBuilding, step, begunBy, opening, Run, begins, goes, acceptedCloses, calledCloses, forestOf}
-use Rattle.demands.specs.Steps.{Leads, take-off, take-bad, take-on, open-off, open-on, close-off, whole-on, more-on, read-on, false-on}
+use Rattle.demands.specs.Steps.{take-off, take-bad, take-on, open-off, open-on, close-off, whole-on, more-on, read-on, false-on}
 use Rattle.demands.specs.Runs.{Holds, given-same, adopt-accepted, run-holds}
 use Rattle.demands.specs.Results.{forest-at, below-ceiling, below-more}
 

@@ -1,12 +1,11 @@
 -- Demands 1 to 3 of the letter, over the definitions of the calls and runs of them, to be read alone. Behind each theorem stands the instance of P1 to P10
 -- that meets its premises (Met.antt).
 -- Assumes nothing.
-use Prim.Native.Nat.{ℕ, suc, _+_, _-_, _/_, _≤_, _<_}
+use Prim.Native.Nat.{ℕ, _+_, _-_, _/_, _≤_, _<_}
 use mathlib.Core.Path.{_≡_, refl, sym, ap, _∙_, fun-ext}
-use mathlib.Core.List.{List, [], _∷_, _++_}
+use mathlib.Core.List.{List, _++_}
 use mathlib.Core.Logic.{_⊎_, inl, inr, _≢_, _↔_}
 use native.Mathlib.Omega.{arith}
-use lib.Dec.{T}
 use lib.ListN.{length, drop}
 use Rattle.base.specs.Answer.{gives, refuses}
 use Rattle.base.specs.Truth.{T-dec}

@@ -2,7 +2,7 @@
 -- Assumes nothing.
 use Prim.Native.Nat.{ℕ, zero, suc, _*_}
 use mathlib.Core.Path.{_≡_, refl}
-use mathlib.Core.Bool.{Bool, true, false, _&&_}
+use mathlib.Core.Bool.{Bool, false, _&&_}
 use mathlib.Core.List.{List, [], _∷_, _++_, map}
 use lib.ListN.{length, replicate}
 use lib.Dec.{ltb}
@@ -13,11 +13,11 @@ use Rattle.lists.specs.List.{andThen, placed as placedAt, joins, counts, readEn
 use Rattle.rules.specs.Links.{Link, between, linked, tally}
 use Rattle.rules.specs.Forest.{up, depth}
 use Rattle.rules.specs.Search.{count, some, every, first, least, table, listed}
-use Rattle.rules.specs.Tables.{Tables, parentOf, rank, noteOf, markOf, placed, par, lev, fresh, place, putNote, putMark, putHeld, putCrossed, cleared}
+use Rattle.rules.specs.Tables.{parentOf, rank, noteOf, markOf, placed, par, lev, fresh, place, putNote, putMark, putHeld, putCrossed, cleared}
 use Rattle.rules.specs.Building.{alone, merged, piecesFrom, pieces, member, sizeOf, heldIn, better, noteLink, hold, fill, holdLink, buildLink, buildLinks, noted, topOf, hang, nextOf, reachNext, goBack, walkStep, walkSteps, walked, placePath, lost, placeWalk, placePiece, placeFrom, placePieces, closeBuilding, done, pass, passes}
 use Rattle.rules.specs.Adopting.{rootedIn, adoptable, adopted}
 use Rattle.rules.specs.Reading.{above, hear, readLink, readLinks, seen, accepted, lowest, reach, childOf, soleBelow, sole, cut, rootOf, piece}
-use Rattle.rules.specs.Known.{Instance, build, adopt, Result, reports, refused, Row, row, square, triangle, instances}
+use Rattle.rules.specs.Known.{Instance, build, adopt, Result, reports, refused, row, square, triangle, instances}
 use Rattle.state.specs.Layout.{words, section, linkIn, wordOf, tablesIn, zeroed, fragOf, heldOf}
 use Rattle.state.specs.Test.{asked, allZero, stageFits, standsAt, forestFits, endsFit, noneTwice, quotaFits, heldFits, noteFits, clearAt, lowFits, notesFit, restZero, countsFit, readFits, markFits, restAgrees, fits, sound}
 use Rattle.state.specs.Call.{Begun, boundsRefusal, headRefusal, headed, moved, leaves}
@@ -27,7 +27,7 @@ use Rattle.state.specs.Take.{tell, taken, takeIn, takeCall}
 use Rattle.state.specs.Close.{Ending, openCall, endBuilding, endReading, closeIn, closeCall}
 use Rattle.state.specs.Ask.{askOne, askTwo, parentCall, cutCall, soleCall}
 use Rattle.state.specs.declared.State.{State}
-use Rattle.demands.specs.Run.{Origin, start, adopt as adopts, Call, take, close, openReading, Moment, afterTake, afterClose, afterOpen, closeAt, step, begunBy, opening}
+use Rattle.demands.specs.Run.{start, adopt as adopts, take, close, openReading, Moment, afterTake, afterClose, afterOpen, closeAt, step, begunBy, opening}
 
 -- A question that is refused gives no number, and is no yes.
 abbrev numberIn : Answer ℕ → List ℕ

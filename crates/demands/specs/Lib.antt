@@ -8,3 +8,4 @@ pub mod Results
 pub mod Counts
 pub mod Answers
 pub mod Demands
+pub mod Met

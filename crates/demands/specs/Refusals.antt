@@ -1,13 +1,13 @@
 -- What a refused call leaves, of any state and tables; and which refusals a moment of a run can meet.
 -- Assumes nothing.
 use Prim.Native.Nat.{ℕ, zero, suc, _+_, _≤_, _<_}
-use mathlib.Core.Path.{_≡_, refl, sym, ap, _∙_, subst}
-use mathlib.Core.Bool.{Bool, true, false, not, _||_}
+use mathlib.Core.Path.{_≡_, refl, sym, _∙_}
+use mathlib.Core.Bool.{Bool}
 use mathlib.Core.List.{List, [], _∷_}
 use mathlib.Core.Logic.{_⊎_, inl, inr, _≢_}
 use native.Mathlib.Omega.{arith}
 use native.Mathlib.Decide.{ℕ-discrete, decLt}
-use lib.Dec.{T, leb, eqb}
+use lib.Dec.{T, leb}
 use lib.ListN.{length}
 use Rattle.base.specs.Pick.{pick, pick-true, pick-false, pick-all, tests}
 use Rattle.base.specs.Answer.{Answer, gives, refuses}
@@ -18,21 +18,19 @@ use Rattle.lists.specs.List.{andThen, placed, joins, counts, readEnds, readLink
 use Rattle.lists.specs.Link.{never-both}
 use Rattle.rules.specs.Links.{Link}
 use Rattle.rules.specs.Tables.{Tables, cleared}
-use Rattle.rules.specs.Building.{closeBuilding, done}
+use Rattle.rules.specs.Building.{done}
 use Rattle.rules.specs.Reading.{accepted}
-use Rattle.state.specs.Layout.{tablesIn, fragOf, heldOf}
+use Rattle.state.specs.Layout.{tablesIn, heldOf}
 use Rattle.state.specs.Test.{isBuilding, isReading, sound}
-use Rattle.state.specs.Call.{boundsRefusal, Left, refused, headRefusal, headed, moved, leaves}
-use Rattle.state.specs.Take.{takes, tell, taken, takeIn, takeCall}
+use Rattle.state.specs.Call.{Left, headRefusal, headed, moved, leaves}
+use Rattle.state.specs.Take.{takes, taken, takeIn, takeCall}
 use Rattle.state.specs.Close.{opens, openCall, Ending, endBuilding, endReading, closeIn, closeCall}
 use Rattle.state.specs.Ask.{askOne, askTwo}
-use Rattle.state.specs.Laws.Bounds.{bounds-known}
 use Rattle.state.specs.Laws.Sound.{sound-known, frag-found, held-found}
 use Rattle.state.specs.Laws.Keeps.{Passes, Head, AsFound, headed-all, headed-on, headed-off}
 use Rattle.state.specs.Laws.KeepsTables.{reads-settled}
 use Rattle.state.specs.declared.State.{State}
 use Rattle.state.specs.declared.Stage.{Stage}
-use Rattle.state.specs.declared.Stage.the-variants.{Building, Built, Reading, Read}
 use Rattle.demands.specs.Claims.{NotesLost}
 
 none-held : (l : List Link) → length l ≡ 0 → l ≡ []

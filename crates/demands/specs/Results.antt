@@ -1,22 +1,20 @@
 -- What the theorems of the rules say of a moment of a run.
 -- Assumes nothing.
 use Prim.Native.Nat.{ℕ, suc, _+_, _-_, _/_, _≤_, _<_}
-use mathlib.Core.Path.{_≡_, refl, sym, ap, _∙_, subst}
-use mathlib.Core.Bool.{Bool, true, false, _||_}
-use mathlib.Core.List.{List, [], _∷_, _++_}
-use mathlib.Core.Logic.{_⊎_, inl, inr, _≢_, _↔_}
+use mathlib.Core.Path.{_≡_, sym, _∙_, subst}
+use mathlib.Core.List.{List, [], _∷_}
+use mathlib.Core.Logic.{_↔_}
 use native.Mathlib.Omega.{arith}
-use native.Mathlib.Numerals.{add-one}
 use lib.Dec.{T}
 use lib.ListN.{length, length-append}
-use Rattle.base.specs.Answer.{Answer, gives, refuses}
+use Rattle.base.specs.Answer.{gives, refuses}
 use Rattle.base.specs.Truth.{T-dec}
 use Rattle.lists.specs.Link.{never-both}
 use Rattle.rules.specs.Links.{Link, Links, linked, Among, SameSet}
 use Rattle.rules.specs.Removal.{Sole, Cut, Piece}
 use Rattle.rules.specs.Forest.{DepthFirst}
 use Rattle.rules.specs.Tables.{Tables, placed, par, fresh, cleared}
-use Rattle.rules.specs.Building.{buildLinks, done, passes}
+use Rattle.rules.specs.Building.{done, passes}
 use Rattle.rules.specs.Reading.{readLinks, accepted, sole, cut, piece}
 use Rattle.rules.specs.Laws.Facts.{Standing}
 use Rattle.rules.specs.Laws.Search.{every-at, every-intro}
@@ -26,16 +24,13 @@ use Rattle.rules.specs.Laws.Passes.{told-forest, result}
 use Rattle.rules.specs.Laws.Ceiling.{ceiling, ceiling-more}
 use Rattle.rules.specs.Laws.Reading.{read-forest}
 use Rattle.rules.specs.Laws.Reports.{SameReports, reading-exact, sole-exact, cut-exact, piece-exact, equal-reports}
-use Rattle.state.specs.Layout.{tablesIn}
 use Rattle.state.specs.Test.{isBuilding, isReading, isRead}
 use Rattle.state.specs.Call.{moved}
 use Rattle.state.specs.Close.{read}
-use Rattle.state.specs.Laws.Keeps.{Passes}
 use Rattle.state.specs.Laws.KeepsLeft.{read-makes, false-makes}
 use Rattle.state.specs.Laws.KeepsTables.{reads-settled}
-use Rattle.state.specs.declared.Stage.{Stage}
-use Rattle.demands.specs.Run.{Origin, start, close, Moment, closeAt, step, fragments, roomFor, firstTables, forestOf, tablesOf, tablesAt}
-use Rattle.demands.specs.Steps.{Leads, read-on}
+use Rattle.demands.specs.Run.{Origin, start, close, Moment, closeAt, step, fragments, forestOf, tablesAt}
+use Rattle.demands.specs.Steps.{read-on}
 use Rattle.demands.specs.Runs.{Holds, bounds-at, agrees-at, some-room, forest-stands, building-tables, settled-tables}
 
 -- Done speaks of the forest alone.

@@ -1,6 +1,6 @@
 -- Runs of calls: 'runs in which each call gets the state and tables as the call before left them', and what each pass of a run told. Definitions only.
 -- Assumes nothing.
-use Prim.Native.Nat.{ℕ, zero, suc}
+use Prim.Native.Nat.{ℕ, suc}
 use mathlib.Core.Path.{_≡_}
 use mathlib.Core.Bool.{Bool, true, false}
 use mathlib.Core.List.{List, [], _∷_, _++_}

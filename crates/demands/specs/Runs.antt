@@ -1,32 +1,28 @@
 -- What holds at every moment of every run: the tables pass the test, and are what the rules make of what was told.
 -- Assumes nothing.
-use Prim.Native.Nat.{ℕ, suc, _+_, _≤_}
+use Prim.Native.Nat.{ℕ, suc, _≤_}
 use mathlib.Core.Path.{_≡_, refl, sym, ap, _∙_, subst}
-use mathlib.Core.Bool.{Bool, true, false}
 use mathlib.Core.List.{List, [], _∷_, _++_}
-use mathlib.Core.Logic.{_⊎_, inl, inr}
+use mathlib.Core.Logic.{inl, inr}
 use native.Mathlib.Omega.{arith}
 use native.Mathlib.Decide.{ℕ-discrete}
-use native.Mathlib.Numerals.{add-one}
 use lib.Dec.{T, eqb}
 use lib.ListN.{length, length-append}
-use borrow.Author.Tests.{eq-eqb, ne-eqb}
+use borrow.Author.Tests.{ne-eqb}
 use Rattle.base.specs.Pick.{pick, pick-true, pick-false}
-use Rattle.base.specs.Answer.{Answer, gives, refuses}
+use Rattle.base.specs.Answer.{gives, refuses}
 use Rattle.base.specs.Truth.{or-cases, T-dec, T-true, T-false}
 use Rattle.lists.specs.List.{blockLinks}
 use Rattle.lists.specs.Link.{never-both, answered}
 use Rattle.lists.specs.Laws.{accepted-sound}
 use Rattle.rules.specs.Links.{Link, linked, Among}
-use Rattle.rules.specs.Tables.{Tables, fresh, cleared}
+use Rattle.rules.specs.Tables.{Tables, cleared}
 use Rattle.rules.specs.Building.{buildLinks, closeBuilding, done, pass, passes}
 use Rattle.rules.specs.Reading.{readLinks, accepted}
-use Rattle.rules.specs.Adopting.{adopted}
 use Rattle.rules.specs.Laws.Facts.{Standing, Rested}
 use Rattle.rules.specs.Laws.Links.{among-nil}
-use Rattle.rules.specs.Laws.Tables.{SameForest, fresh-standing, fresh-rested}
+use Rattle.rules.specs.Laws.Tables.{fresh-rested}
 use Rattle.rules.specs.Laws.Partial.{Each}
-use Rattle.rules.specs.Laws.Passes.{pass-rests}
 use Rattle.rules.specs.Laws.Reading.{read-append, read-forest}
 use Rattle.rules.specs.Laws.Adopting.{adopted-rested}
 use Rattle.rules.specs.Laws.Append.{build-append, among-append, passes-snoc, each-snoc, passes-stand, cleared-same, rested-cleared}

@@ -1,30 +1,26 @@
 -- What each call makes of a moment whose tables pass the test.
 -- Assumes nothing.
 use Prim.Native.Nat.{ℕ, suc, _+_}
-use mathlib.Core.Path.{_≡_, refl, sym, ap, _∙_, subst}
-use mathlib.Core.Bool.{Bool, true, false}
+use mathlib.Core.Path.{_≡_, refl}
 use mathlib.Core.List.{List, [], _∷_, _++_, append-nil}
-use mathlib.Core.Logic.{_⊎_, inl, inr}
 use lib.Dec.{T}
 use lib.ListN.{length}
-use Rattle.base.specs.Pick.{pick, pick-true, pick-false}
-use Rattle.base.specs.Answer.{Answer, gives, refuses}
-use Rattle.base.specs.Truth.{or-l, or-r, or-cases, T-dec, T-true, T-false}
+use Rattle.base.specs.Pick.{pick}
+use Rattle.base.specs.Answer.{gives, refuses}
 use Rattle.lists.specs.List.{blockLinks}
 use Rattle.rules.specs.Links.{Link}
 use Rattle.rules.specs.Tables.{Tables, cleared}
 use Rattle.rules.specs.Building.{closeBuilding, done}
 use Rattle.rules.specs.Reading.{accepted}
-use Rattle.state.specs.Layout.{tablesIn}
 use Rattle.state.specs.Test.{isBuilding, isReading}
-use Rattle.state.specs.Call.{Left, refused, moved}
+use Rattle.state.specs.Call.{moved}
 use Rattle.state.specs.Take.{takes, tell, taken, takeIn, takeCall}
-use Rattle.state.specs.Close.{opens, openCall, more, whole, read, closeIn, closeCall}
+use Rattle.state.specs.Close.{opens, openCall, closeIn, closeCall}
 use Rattle.state.specs.Laws.Keeps.{Passes, headed-on, headed-off}
-use Rattle.state.specs.Laws.KeepsLeft.{Makes, take-makes, open-makes, whole-makes, more-makes, read-makes, false-makes}
+use Rattle.state.specs.Laws.KeepsLeft.{take-makes, open-makes, whole-makes, more-makes, read-makes, false-makes}
 use Rattle.state.specs.declared.State.{State}
 use Rattle.state.specs.declared.Stage.the-variants.{Building, Built, Reading, Read}
-use Rattle.demands.specs.Run.{Call, take, close, openReading, Moment, afterTake, afterClose, afterOpen, takeAt, closeAt, openAt, step, tablesAt}
+use Rattle.demands.specs.Run.{take, close, openReading, Moment, afterTake, afterClose, afterOpen, step, tablesAt}
 
 -- A call that was accepted, or refused with 9, leads to a state, to words that hold the tables t, and to what was told.
 pub record Leads (m : Moment) (s : State) (t : Tables) (told : List (List Link)) (telling : List Link) : Type 0 where
