@@ -8,7 +8,9 @@ use mathlib.Core.Logic.{_≢_, _↔_}
 use lib.Dec.{T}
 use Rattle.base.specs.Answer.{gives, refuses}
 use Rattle.rules.specs.Removal.{Sole, Cut, Piece}
+use Rattle.rules.specs.Forest.{up}
 use Rattle.rules.specs.Tables.{cleared}
+use Rattle.rules.specs.Adopting.{parentIn}
 use Rattle.state.specs.Layout.{tablesIn, fragOf}
 use Rattle.state.specs.Test.{isBuilding, isReading, isRead}
 use Rattle.state.specs.Call.{Left}
@@ -26,6 +28,10 @@ InReading m = T (isReading (m .state .stage))
 
 abbrev pub InRead : Moment → Type 0
 InRead m = T (isRead (m .state .stage))
+
+-- Not '10: an adopted parent is n or more, or parents run in a cycle of two or more'.
+abbrev pub Leading : ℕ → List ℕ → Type 0
+Leading n ps = ((v : ℕ) → v < n → parentIn ps v < n) × ((v : ℕ) → v < n → (i : ℕ) × (parentIn ps (up (parentIn ps) i v) ≡ up (parentIn ps) i v))
 
 -- What refusal 9 leaves: 'the notes are cleared and the stage is Built. This is the one refusal that changes anything.'
 pub record NotesLost (s : State) (f h : List ℕ) (l : Left Ending) : Type 0 where

@@ -6,6 +6,7 @@ use mathlib.Core.Path.{_≡_, refl, sym, ap, _∙_, fun-ext}
 use mathlib.Core.List.{List, _++_}
 use mathlib.Core.Logic.{_⊎_, inl, inr, _≢_, _↔_}
 use native.Mathlib.Omega.{arith}
+use lib.Dec.{T}
 use lib.ListN.{length, drop}
 use Rattle.base.specs.Answer.{gives, refuses}
 use Rattle.base.specs.Truth.{T-dec}
@@ -20,21 +21,24 @@ use Rattle.rules.specs.Forest.{DepthFirst}
 use Rattle.rules.specs.Tables.{par}
 use Rattle.rules.specs.Reading.{accepted}
 use Rattle.rules.specs.Adopting.{parentIn}
+use Rattle.rules.specs.Laws.Adopting.{adoptable-exact}
 use Rattle.rules.specs.Laws.Partial.{Tells, Each}
+use Rattle.state.specs.Call.{boundsRefusal}
 use Rattle.state.specs.Start.{startCall}
-use Rattle.state.specs.Adopt.{adoptCall}
-use Rattle.state.specs.Take.{takeCall}
-use Rattle.state.specs.Close.{read, openCall, closeCall}
+use Rattle.state.specs.Adopt.{adoptedState, adoptCall}
+use Rattle.state.specs.Take.{takes, takeCall}
+use Rattle.state.specs.Close.{read, opens, openCall, closeCall}
 use Rattle.state.specs.Laws.Keeps.{Passes, AsFound}
 use Rattle.state.specs.Laws.KeepsCalls.{close-keeps}
 use Rattle.state.specs.Laws.KeepsBegun.{start-keeps, adopt-keeps}
+use Rattle.state.specs.Laws.KeepsLeft.{take-makes, open-makes}
 use Rattle.state.specs.Laws.KeepsTables.{reads-settled}
 use Rattle.state.specs.declared.State.{State}
-use Rattle.demands.specs.Run.{Origin, start, adopt, close, Moment, closeAt, parentAt, step, Run, goes, acceptedCloses, calledCloses, fragments, tablesOf, tablesAt}
-use Rattle.demands.specs.Claims.{InBuilding, InReading, InRead, NotesLost, Never, Truly, Alike}
+use Rattle.demands.specs.Run.{Origin, start, adopt, close, Moment, takeAt, closeAt, openAt, parentAt, endsBuilding, step, Run, goes, acceptedCloses, calledCloses, fragments, tablesOf, tablesAt}
+use Rattle.demands.specs.Claims.{InBuilding, InReading, InRead, Leading, NotesLost, Never, Truly, Alike}
 use Rattle.demands.specs.Runs.{run-holds}
-use Rattle.demands.specs.Refusals.{take-unchanged, open-unchanged, close-loses}
-use Rattle.demands.specs.Results.{read-next, accepts-exactly, close-read, close-false, close-exactly, forest-finished, below-ceiling, below-more}
+use Rattle.demands.specs.Refusals.{take-unchanged, open-unchanged, close-loses, adopt-good, adopt-ten}
+use Rattle.demands.specs.Results.{building-closes, read-next, accepts-exactly, close-read, close-false, close-exactly, forest-finished, below-ceiling, below-more}
 use Rattle.demands.specs.Counts.{closes-told, within-ceiling, all-accepted, adopted-settled, adopted-forest}
 use Rattle.demands.specs.Answers.{never-eleven, parent-asked, truly-at, alike-at}
 
@@ -70,6 +74,16 @@ demand-1-tested r = run-holds r .tested
 pub demand-1-never : {o : Origin} {m : Moment} → Run o m → Never m 11
 demand-1-never r = never-eleven (run-holds r)
 
+-- Only what the stage or the block asks for is refused: else every take, every close in Building and every open reading of a run is accepted.
+pub demand-1-takes : {o : Origin} {m : Moment} → Run o m → (block : List ℕ) (g : List Link) → T (takes (m .state .stage)) → blockLinks (m .state .n) (m .state .entries) block ≡ gives g → takeAt m block .answer ≡ gives tt
+demand-1-takes {o} {m} r block g c e = take-makes (m .state) (m .frag) (m .held) (run-holds r .tested) c block g e .answer
+
+pub demand-1-closes : {o : Origin} {m : Moment} → Run o m → InBuilding m → T (endsBuilding (closeAt m .answer))
+demand-1-closes r = building-closes (run-holds r)
+
+pub demand-1-opens : {o : Origin} {m : Moment} → Run o m → T (opens (m .state .stage)) → openAt m .answer ≡ gives tt
+demand-1-opens {o} {m} r c = open-makes (m .state) (m .frag) (m .held) (run-holds r .tested) c .answer
+
 -- Demand 2. 'Each step does what the rules in 01 say': at every moment the tables are what the rules make of what was told.
 pub demand-2-rules : {o : Origin} {m : Moment} → Run o m → tablesAt m ≡ tablesOf o m
 demand-2-rules r = run-holds r .tables
@@ -93,6 +107,14 @@ demand-2-false {o} {m} r c =
       (λ e d. never-both (close-read H c (A .1 d)) e),
       (λ d. close-false H c (λ x. d (A .0 x))),
     )
+
+-- A table of parents is adopted exactly when its parents are fragments and lead to roots; else it is refused with 10.
+module _ (n k : ℕ) (ps f h : List ℕ) (b : boundsRefusal n k (length f) (length h) ≡ 0) (l : n ≤ length ps) where
+  pub demand-2-adopts : Leading n ps → adoptCall n k ps f h .answer ≡ gives (adoptedState n k)
+  demand-2-adopts x = adopt-good n k ps f h b l (adoptable-exact n ps .1 x)
+
+  pub demand-2-ten : (Leading n ps → ⊥) → adoptCall n k ps f h .answer ≡ refuses 10 0
+  demand-2-ten x = adopt-ten n k ps f h b l (λ q. x (adoptable-exact n ps .0 q))
 
 -- 'A forest from elsewhere is accepted exactly when this holds', of the parents as they were given.
 pub demand-2-adopted : {n k : ℕ} {ps : List ℕ} {m : Moment} → Run (adopt n k ps) m → InReading m → (closeAt m .answer ≡ gives read) ↔ DepthFirst n (parentIn ps) (linked (m .telling))

@@ -32,10 +32,10 @@ use Rattle.state.specs.Close.{read, openCall, endBuilding, endReading, closeIn,
 use Rattle.state.specs.Ask.{askOne, askTwo, parentCall, cutCall, soleCall}
 use Rattle.state.specs.Laws.Keeps.{AsFound}
 use Rattle.state.specs.declared.Stage.the-variants.{Built, Reading, Read}
-use Rattle.demands.specs.Run.{Origin, start, adopt, Call, take, close, openReading, Moment, afterTake, afterClose, afterOpen, takeAt, closeAt, soleAt, step, begunBy, opening, Run, begins, goes, acceptedCloses, calledCloses, tablesAt}
-use Rattle.demands.specs.Claims.{NotesLost, Alike}
+use Rattle.demands.specs.Run.{Origin, start, adopt, Call, take, close, openReading, Moment, afterTake, afterClose, afterOpen, takeAt, closeAt, openAt, soleAt, step, begunBy, opening, Run, begins, goes, acceptedCloses, calledCloses, tablesAt}
+use Rattle.demands.specs.Claims.{Leading, NotesLost, Alike}
 use Rattle.demands.specs.Runs.{given-same}
-use Rattle.demands.specs.Demands.{demand-1-take, demand-1-false, demand-2-forest, demand-2-adopted, demand-3-accepts, demand-3-truly, demand-3-alike, pass-count}
+use Rattle.demands.specs.Demands.{demand-1-take, demand-1-open, demand-1-close, demand-1-start, demand-1-adopt, demand-1-false, demand-2-adopts, demand-2-forest, demand-2-adopted, demand-3-accepts, demand-3-truly, demand-3-alike, pass-count}
 
 -- Calls one after another.
 unfoldable pub after : Moment → List Call → Moment
@@ -99,6 +99,11 @@ record Computed : Type 0 where
   other-reads : p2-read .state .stage ≡ Read
   other-telling : p2-read .telling ≡ turned
   far-taken : takeAt (startedAt 4 1) (0 ∷ 4 ∷ []) .answer ≡ refuses 4 0
+  early-open : openAt (startedAt 4 1) .answer ≡ refuses 6 0
+  late-close : closeAt p1-built .answer ≡ refuses 6 0
+  none-started : startCall 0 1 (lent 1) [] .answer ≡ refuses 1 0
+  cycle-adopted : adoptCall 2 1 (1 ∷ 0 ∷ []) (lent 32) (lent 2) .answer ≡ refuses 10 0
+  cycle-bounds : boundsRefusal 2 1 32 2 ≡ 0
   false-reading : p8-reading .state .stage ≡ Reading
   false-telling : p8-reading .telling ≡ triangle
   false-close : closeAt p8-reading .answer ≡ refuses 9 0
@@ -106,8 +111,29 @@ record Computed : Type 0 where
 computed : Computed
 unfolding pick between linked tally up depth count some every first least table listed parentOf rank noteOf markOf placed par lev fresh place putNote putMark putHeld putCrossed cleared alone merged piecesFrom pieces member sizeOf heldIn better noteLink hold fill holdLink buildLink buildLinks noted topOf hang nextOf reachNext goBack walkStep walkSteps walked placePath lost placeWalk placePiece placeFrom placePieces closeBuilding done rootedIn adoptable adopted above hear readLink readLinks seen accepted lowest reach childOf soleBelow sole cut rootOf piece square triangle onto readGroups atMost readUpTo readNumber groupsOf writtenNumber andThen placedAt joins counts readEnds readLinkAt before linksIn linksAt blockLinks writtenLinks section linkIn wordOf tablesIn zeroed fragOf heldOf asked allZero stageFits standsAt forestFits endsFit noneTwice quotaFits heldFits noteFits clearAt lowFits notesFit restZero countsFit readFits markFits restAgrees fits sound boundsRefusal headRefusal headed moved leaves startCall adoptRefusal adoptCall tell taken takeIn takeCall openCall endBuilding endReading closeIn closeCall askOne askTwo parentCall cutCall soleCall afterTake afterClose afterOpen step begunBy opening after startedAt adoptedAt
 computed = record {
-  start-4-1 = refl; start-4-2 = refl; adopt-3 = refl; built = refl; built-passes = refl; built-told = refl; reading = refl; reading-told = refl; reading-telling = refl;
-  reads = refl; read-telling = refl; read-sole = refl; other-reads = refl; other-telling = refl; far-taken = refl; false-reading = refl; false-telling = refl; false-close = refl;
+  start-4-1 = refl;
+  start-4-2 = refl;
+  adopt-3 = refl;
+  built = refl;
+  built-passes = refl;
+  built-told = refl;
+  reading = refl;
+  reading-told = refl;
+  reading-telling = refl;
+  reads = refl;
+  read-telling = refl;
+  read-sole = refl;
+  other-reads = refl;
+  other-telling = refl;
+  far-taken = refl;
+  false-reading = refl;
+  false-telling = refl;
+  false-close = refl;
+  early-open = refl;
+  late-close = refl;
+  none-started = refl;
+  cycle-adopted = refl;
+  cycle-bounds = refl;
 }
 
 -- The runs.
@@ -126,6 +152,18 @@ from-adopted = follow (begins (lent 48) (lent 3) (adoptedState 3 1) (computed .a
 -- A refused call: document 01's 0-4 where n is 4; and refusal 9.
 pub met-refused : AsFound (startedAt 4 1 .state) (startedAt 4 1 .frag) (startedAt 4 1 .held) (takeAt (startedAt 4 1) (0 ∷ 4 ∷ []))
 met-refused = demand-1-take _ _ _ (0 ∷ 4 ∷ []) 4 0 (computed .far-taken)
+
+pub met-open : AsFound (startedAt 4 1 .state) (startedAt 4 1 .frag) (startedAt 4 1 .held) (openAt (startedAt 4 1))
+met-open = demand-1-open _ _ _ 6 0 (computed .early-open)
+
+pub met-close : AsFound (p1-built .state) (p1-built .frag) (p1-built .held) (closeAt p1-built)
+met-close = demand-1-close _ _ _ 6 0 (omega arith) (computed .late-close)
+
+pub met-start : (startCall 0 1 (lent 1) [] .frag ≡ lent 1) × (startCall 0 1 (lent 1) [] .held ≡ [])
+met-start = demand-1-start 0 1 (lent 1) [] 1 0 (computed .none-started)
+
+pub met-adopt : (adoptCall 2 1 (1 ∷ 0 ∷ []) (lent 32) (lent 2) .frag ≡ lent 32) × (adoptCall 2 1 (1 ∷ 0 ∷ []) (lent 32) (lent 2) .held ≡ lent 2)
+met-adopt = demand-1-adopt 2 1 (1 ∷ 0 ∷ []) (lent 32) (lent 2) 10 0 (computed .cycle-adopted)
 
 pub met-lost : NotesLost (p8-reading .state) (p8-reading .frag) (p8-reading .held) (closeAt p8-reading)
 met-lost = demand-1-false _ _ _ 0 (computed .false-close)
@@ -161,6 +199,10 @@ pub met-alike : Alike p1-read p2-read
 met-alike =
     demand-3-alike (from-4-1 (twice ++ (openReading ∷ tells square ∷ close ∷ []))) (from-4-2 _) refl
     (rw (computed .read-telling, computed .other-telling) turned-same) (rw (computed .reads) tt) (rw (computed .other-reads) tt)
+
+-- P10: the parents 1 0 lead to no root.
+pub met-cycle : Leading 2 (1 ∷ 0 ∷ []) → ⊥
+met-cycle x = never-both (demand-2-adopts 2 1 (1 ∷ 0 ∷ []) (lent 32) (lent 2) (computed .cycle-bounds) (omega arith) x) (computed .cycle-adopted)
 
 -- P8: the adopted forest is none of the triangle.
 pub met-none : DepthFirst 3 (parentIn (0 ∷ 0 ∷ 0 ∷ [])) (linked triangle) → ⊥

@@ -2,7 +2,7 @@
 -- Assumes nothing.
 use Prim.Native.Nat.{ℕ, zero, suc, _+_, _≤_, _<_}
 use mathlib.Core.Path.{_≡_, refl, sym, _∙_}
-use mathlib.Core.Bool.{Bool}
+use mathlib.Core.Bool.{Bool, not}
 use mathlib.Core.List.{List, [], _∷_}
 use mathlib.Core.Logic.{_⊎_, inl, inr, _≢_}
 use native.Mathlib.Omega.{arith}
@@ -20,14 +20,17 @@ use Rattle.rules.specs.Links.{Link}
 use Rattle.rules.specs.Tables.{Tables, cleared}
 use Rattle.rules.specs.Building.{done}
 use Rattle.rules.specs.Reading.{accepted}
+use Rattle.rules.specs.Adopting.{adoptable}
 use Rattle.state.specs.Layout.{tablesIn, heldOf}
 use Rattle.state.specs.Test.{isBuilding, isReading, sound}
-use Rattle.state.specs.Call.{Left, headRefusal, headed, moved, leaves}
+use Rattle.state.specs.Call.{boundsRefusal, Left, headRefusal, headed, moved, leaves}
+use Rattle.state.specs.Adopt.{adoptedState, adoptRefusal, adoptCall}
 use Rattle.state.specs.Take.{takes, taken, takeIn, takeCall}
 use Rattle.state.specs.Close.{opens, openCall, Ending, endBuilding, endReading, closeIn, closeCall}
 use Rattle.state.specs.Ask.{askOne, askTwo}
 use Rattle.state.specs.Laws.Sound.{sound-known, frag-found, held-found}
 use Rattle.state.specs.Laws.Keeps.{Passes, Head, AsFound, headed-all, headed-on, headed-off}
+use Rattle.state.specs.Laws.KeepsBegun.{adopt-makes}
 use Rattle.state.specs.Laws.KeepsTables.{reads-settled}
 use Rattle.state.specs.declared.State.{State}
 use Rattle.state.specs.declared.Stage.{Stage}
@@ -238,3 +241,17 @@ module _ (s : State) (f h : List ℕ) (p : Passes s f h) where
       ]
       | no c ↦ rw (two-off allowed s f h p a b x c) (omega arith)
     ]
+
+-- Adopt, where n, k and the lengths are good: accepted, or 10.
+module _ (n k : ℕ) (ps f h : List ℕ) (b : boundsRefusal n k (length f) (length h) ≡ 0) (l : n ≤ length ps) where
+  adopt-due : adoptRefusal n k ps (length f) (length h) ≡ pick (not (adoptable n ps)) 10 0
+  unfolding adoptRefusal
+  adopt-due = rw b (simp tests)
+
+  pub adopt-good : T (adoptable n ps) → adoptCall n k ps f h .answer ≡ gives (adoptedState n k)
+  unfolding pick
+  adopt-good q = adopt-makes n k f h ps (adopt-due ∙ rw (T-true (adoptable n ps) q) refl) .0
+
+  pub adopt-ten : (T (adoptable n ps) → ⊥) → adoptCall n k ps f h .answer ≡ refuses 10 0
+  unfolding adoptCall pick
+  adopt-ten q = rw (adopt-due, T-false (adoptable n ps) q) refl

@@ -14,7 +14,7 @@ use Rattle.rules.specs.Links.{Link, Links, linked, Among, SameSet}
 use Rattle.rules.specs.Removal.{Sole, Cut, Piece}
 use Rattle.rules.specs.Forest.{DepthFirst}
 use Rattle.rules.specs.Tables.{Tables, placed, par, fresh, cleared}
-use Rattle.rules.specs.Building.{done, passes}
+use Rattle.rules.specs.Building.{closeBuilding, done, passes}
 use Rattle.rules.specs.Reading.{readLinks, accepted, sole, cut, piece}
 use Rattle.rules.specs.Laws.Facts.{Standing}
 use Rattle.rules.specs.Laws.Search.{every-at, every-intro}
@@ -27,9 +27,9 @@ use Rattle.rules.specs.Laws.Reports.{SameReports, reading-exact, sole-exact, cu
 use Rattle.state.specs.Test.{isBuilding, isReading, isRead}
 use Rattle.state.specs.Call.{moved}
 use Rattle.state.specs.Close.{read}
-use Rattle.state.specs.Laws.KeepsLeft.{read-makes, false-makes}
+use Rattle.state.specs.Laws.KeepsLeft.{whole-makes, more-makes, read-makes, false-makes}
 use Rattle.state.specs.Laws.KeepsTables.{reads-settled}
-use Rattle.demands.specs.Run.{Origin, start, close, Moment, closeAt, step, fragments, forestOf, tablesAt}
+use Rattle.demands.specs.Run.{Origin, start, close, Moment, closeAt, endsBuilding, step, fragments, forestOf, tablesAt}
 use Rattle.demands.specs.Steps.{read-on}
 use Rattle.demands.specs.Runs.{Holds, bounds-at, agrees-at, some-room, forest-stands, building-tables, settled-tables}
 
@@ -54,6 +54,14 @@ module _ {o : Origin} {m : Moment} (H : Holds o m) where
       let (S, R) = forest-stands H in
       let e = told-forest (some-room H) S R (m .telling) (H .among) in
       agrees-at H .unfinished b (rw (H .tables, building-tables o m b, H .size) (done-same n (forest-turn e) d))
+
+  pub building-closes : T (isBuilding (m .state .stage)) → T (endsBuilding (closeAt m .answer))
+  building-closes b =
+      let t = closeBuilding (m .state .n) (tablesAt m) in
+      elim (T-dec (done (m .state .n) t)) [
+        | yes d ↦ rw (whole-makes (m .state) (m .frag) (m .held) (H .tested) b d .answer) tt
+        | no d ↦ rw (more-makes (m .state) (m .frag) (m .held) (H .tested) b d .answer) tt
+      ]
 
   -- Every other stage: the forest of the passes told stands whole in the tables.
   module _ (b : T (isBuilding (m .state .stage)) → ⊥) where

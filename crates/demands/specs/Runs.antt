@@ -259,7 +259,7 @@ none-met r b c s d e = elim (ℕ-discrete r 0) [
   | no z ↦ absurd (never-both (rw (ne-eqb r 0 z, pick-false) at e) d)
 ]
 
-pub start-accepted : (n k : ℕ) (f h : List ℕ) (s : State) → startCall n k f h .answer ≡ gives s → boundsRefusal n k (length f) (length h) ≡ 0
+start-accepted : (n k : ℕ) (f h : List ℕ) (s : State) → startCall n k f h .answer ≡ gives s → boundsRefusal n k (length f) (length h) ≡ 0
 unfolding startCall
 start-accepted n k f h s e = none-met _ _ _ s refl e
 

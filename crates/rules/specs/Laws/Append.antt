@@ -5,7 +5,6 @@ use mathlib.Core.Path.{_≡_, refl, sym, ap, _∙_}
 use mathlib.Core.Bool.{Bool}
 use mathlib.Core.List.{List, [], _∷_, _++_}
 use mathlib.Core.Logic.{inl, inr}
-use lib.Dec.{T}
 use Rattle.rules.specs.Links.{Link, Links, linked, Among}
 use Rattle.rules.specs.Forest.{up, DepthFirst}
 use Rattle.rules.specs.Tables.{Tables, cleared}
