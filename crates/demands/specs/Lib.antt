@@ -1,4 +1,5 @@
 pub mod Run
+pub mod Course
 pub mod Claims
 pub mod Known
 pub mod Steps
@@ -7,5 +8,6 @@ pub mod Refusals
 pub mod Results
 pub mod Counts
 pub mod Answers
+pub mod Courses
 pub mod Demands
 pub mod Met

@@ -33,19 +33,11 @@ use Rattle.state.specs.Ask.{askOne, askTwo, parentCall, cutCall, soleCall}
 use Rattle.state.specs.Laws.Keeps.{AsFound}
 use Rattle.state.specs.declared.Stage.the-variants.{Built, Reading, Read}
 use Rattle.demands.specs.Run.{Origin, start, adopt, Call, take, close, openReading, Moment, afterTake, afterClose, afterOpen, takeAt, closeAt, openAt, soleAt, step, begunBy, opening, Run, begins, goes, acceptedCloses, calledCloses, tablesAt}
+use Rattle.demands.specs.Course.{after}
+use Rattle.demands.specs.Courses.{follow}
 use Rattle.demands.specs.Claims.{Leading, NotesLost, Alike}
 use Rattle.demands.specs.Runs.{given-same}
 use Rattle.demands.specs.Demands.{demand-1-take, demand-1-open, demand-1-close, demand-1-start, demand-1-adopt, demand-1-false, demand-2-adopts, demand-2-forest, demand-2-adopted, demand-3-accepts, demand-3-truly, demand-3-alike, pass-count}
-
--- Calls one after another.
-unfoldable pub after : Moment → List Call → Moment
-after m [] = m
-after m (c ∷ cs) = after (step m c) cs
-
-follow : {o : Origin} {m : Moment} → Run o m → (cs : List Call) → Run o (after m cs)
-unfolding after
-follow r [] = r
-follow r (c ∷ cs) = follow (goes r c) cs
 
 -- Tables with words of another use in them.
 abbrev lent : ℕ → List ℕ
