@@ -1,23 +1,25 @@
 -- What the demands say of a call and of the moments of runs. Definitions only.
 -- Assumes nothing.
-use Prim.Native.Nat.{ℕ, _<_}
+use Prim.Native.Nat.{ℕ, _+_, _-_, _/_, _<_, _≤_}
 use mathlib.Core.Path.{_≡_}
 use mathlib.Core.Bool.{Bool, false}
 use mathlib.Core.List.{List}
 use mathlib.Core.Logic.{_≢_, _↔_}
 use lib.Dec.{T}
 use Rattle.base.specs.Answer.{gives, refuses}
+use Rattle.rules.specs.Links.{Links}
 use Rattle.rules.specs.Removal.{Sole, Cut, Piece}
 use Rattle.rules.specs.Forest.{up}
 use Rattle.rules.specs.Tables.{cleared}
 use Rattle.rules.specs.Adopting.{parentIn}
+use Rattle.rules.specs.Laws.Partial.{Tells}
 use Rattle.state.specs.Layout.{tablesIn, fragOf}
 use Rattle.state.specs.Test.{isBuilding, isReading, isRead}
 use Rattle.state.specs.Call.{Left}
 use Rattle.state.specs.Close.{Ending}
 use Rattle.state.specs.declared.State.{State}
 use Rattle.state.specs.declared.Stage.the-variants.{Built}
-use Rattle.demands.specs.Run.{Moment, takeAt, closeAt, openAt, parentAt, levelAt, pieceAt, cutAt, soleAt}
+use Rattle.demands.specs.Run.{start, Moment, Run, takeAt, closeAt, openAt, parentAt, levelAt, pieceAt, cutAt, soleAt}
 
 -- The stage of a moment.
 abbrev pub InBuilding : Moment → Type 0
@@ -66,3 +68,11 @@ pub record Alike (m w : Moment) : Type 0 where
   pub pieces-alike : (v : ℕ) → pieceAt m v ≡ pieceAt w v
   pub soles-alike : (a b : ℕ) → soleAt m a b ≡ soleAt w a b
   pub cuts-alike : (v : ℕ) → cutAt m v ≡ cutAt w v
+
+-- A course that built with room k from passes that told E, and read E: 'ends within n/k passes, rounded up, and the reading pass accepts'.
+pub record Finished (n k : ℕ) (E : Links) (m : Moment) : Type 0 where
+  pub run : Run (start n k) m
+  pub read-whole : InRead m
+  pub read-set : Tells E (m .telling)
+  pub passes-few : m .state .passes ≤ (n + k - 1) / k
+  pub reports-true : Truly n m

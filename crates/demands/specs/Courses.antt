@@ -158,3 +158,8 @@ module _ (n k : ℕ) (f h : List ℕ) (b : boundsRefusal n k (length f) (length 
   course-reads passes reading each l g a =
       let B = passes-between first-between passes each in
       reads-by B (built-by B (omega arith)) reading g a
+
+pub course-after : (m : Moment) (passes : List (List (List ℕ))) (reading : List (List ℕ))
+    → after m (buildCalls passes ++ readCalls reading) ≡ step (after (step (after m (buildCalls passes)) openReading) (map take reading)) close
+unfolding after readCalls
+course-after m passes reading = after-append m (buildCalls passes) (openReading ∷ passCalls reading) ∙ pass-after (step (after m (buildCalls passes)) openReading) reading

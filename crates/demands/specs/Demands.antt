@@ -24,7 +24,7 @@ use Rattle.rules.specs.Adopting.{parentIn}
 use Rattle.rules.specs.Laws.Adopting.{adoptable-exact}
 use Rattle.rules.specs.Laws.Partial.{Tells, Each}
 use Rattle.state.specs.Call.{boundsRefusal}
-use Rattle.state.specs.Start.{startCall}
+use Rattle.state.specs.Start.{started, startCall}
 use Rattle.state.specs.Adopt.{adoptedState, adoptCall}
 use Rattle.state.specs.Take.{takes, takeCall}
 use Rattle.state.specs.Close.{read, opens, openCall, closeCall}
@@ -34,12 +34,14 @@ use Rattle.state.specs.Laws.KeepsBegun.{start-keeps, adopt-keeps}
 use Rattle.state.specs.Laws.KeepsLeft.{take-makes, open-makes}
 use Rattle.state.specs.Laws.KeepsTables.{reads-settled}
 use Rattle.state.specs.declared.State.{State}
-use Rattle.demands.specs.Run.{Origin, start, adopt, close, Moment, takeAt, closeAt, openAt, parentAt, endsBuilding, step, Run, goes, acceptedCloses, calledCloses, fragments, tablesOf, tablesAt}
-use Rattle.demands.specs.Claims.{InBuilding, InReading, InRead, Leading, NotesLost, Never, Truly, Alike}
+use Rattle.demands.specs.Run.{Origin, start, adopt, close, Moment, takeAt, closeAt, openAt, parentAt, endsBuilding, step, begunBy, opening, Run, goes, acceptedCloses, calledCloses, fragments, tablesOf, tablesAt}
+use Rattle.demands.specs.Course.{after, PassTells, AllTell, buildCalls, readCalls}
+use Rattle.demands.specs.Claims.{InBuilding, InReading, InRead, Leading, NotesLost, Never, Truly, Alike, Finished}
 use Rattle.demands.specs.Runs.{run-holds}
 use Rattle.demands.specs.Refusals.{take-unchanged, open-unchanged, close-loses, adopt-good, adopt-ten}
 use Rattle.demands.specs.Results.{building-closes, read-next, accepts-exactly, close-read, close-false, close-exactly, forest-finished, below-ceiling, below-more}
 use Rattle.demands.specs.Counts.{closes-told, within-ceiling, all-accepted, adopted-settled, adopted-forest}
+use Rattle.demands.specs.Courses.{course-reads, course-after}
 use Rattle.demands.specs.Answers.{never-eleven, parent-asked, truly-at, alike-at}
 
 -- Demand 1. 'Every call, with every list, table and number, ends and touches nothing outside what was lent' is what the prover shows of every function;
@@ -132,6 +134,17 @@ pub demand-2-blocks : (n e : ℕ) (s t : List ℕ) (g h : List Link) → blockLi
 unfolding andThen shifted
 demand-2-blocks n e s t g h p q = blocks-join n e s t (λ place x. never-both p x) ∙ rw (p, q) refl
 
+-- 'The count of passes in the state equals the number of closes accepted since the start, those of Building only; after adopt it is 0.'
+pub pass-count : {o : Origin} {m : Moment} (r : Run o m) → m .state .passes ≡ acceptedCloses r
+pass-count r = run-holds r .counted ∙ sym (closes-told r)
+
+pub pass-count-adopted : {n k : ℕ} {ps : List ℕ} {m : Moment} → Run (adopt n k ps) m → m .state .passes ≡ 0
+pass-count-adopted r = run-holds r .counted ∙ ap length (adopted-settled r .1)
+
+-- The entry count is that of the list told.
+pub entry-count : {o : Origin} {m : Moment} → Run o m → m .state .entries ≡ length (m .telling)
+entry-count r = run-holds r .entered
+
 -- Demand 3. 'building with room k for n fragments ends within n/k passes, rounded up': so many closes are accepted in Building at most, whatever was told,
 -- and even n/(k + 1), rounded up.
 pub demand-3-ceiling : {n k : ℕ} {m : Moment} (r : Run (start n k) m) → (acceptedCloses r ≤ (n + k - 1) / k) × (acceptedCloses r ≤ (n + k) / (k + 1))
@@ -156,6 +169,33 @@ demand-3-truly r = truly-at (run-holds r)
 pub demand-3-alike : {o q : Origin} {m w : Moment} → Run o m → Run q w → fragments o ≡ fragments q → SameSet (m .telling) (w .telling) → InRead m → InRead w → Alike m w
 demand-3-alike r z = alike-at (run-holds r) (run-holds z)
 
+-- Where every pass and the reading pass told E, the close of the reading pass finishes.
+pub demand-3-finishes : {n k : ℕ} {m : Moment} → Run (start n k) m → InReading m → (E : Links) → Each (Tells E) (m .told) → Tells E (m .telling) → Finished n k E (step m close)
+demand-3-finishes {n} {k} {m} r c E e t =
+    let H = run-holds r in
+    let after-close = goes r close in
+    let (z, f) = read-next H c (accepts-exactly H (reads-settled (m .state .stage) c) .1 (demand-2-reading r c .0 (demand-3-accepts r c E e t))) in
+    record {
+      run = after-close;
+      read-whole = z;
+      read-set = rw f t;
+      passes-few = rw (pass-count after-close) (demand-3-ceiling after-close .0);
+      reports-true = demand-3-truly after-close z;
+    }
+
+-- The whole of it in calls, for every n and k within their bounds, every lent table long enough, every set E and every blocks: start, then passes that each tell E,
+-- as many as the ceiling says or more (those past the last are refused with 6), then a reading pass that tells E. It ends in Read.
+pub demand-3-course : (n k : ℕ) (f h : List ℕ) → boundsRefusal n k (length f) (length h) ≡ 0 → (E : Links) (passes : List (List (List ℕ))) (reading : List (List ℕ))
+    → AllTell n E passes → PassTells n E reading → (n + k - 1) / k ≤ length passes
+    → Finished n k E (after (opening (started n k) (begunBy (start n k) f h)) (buildCalls passes ++ readCalls reading))
+demand-3-course n k f h b E passes reading each (g, a, t) l =
+    let R = course-reads n k f h b E passes reading each l g a in
+    rw (course-after (opening (started n k) (begunBy (start n k) f h)) passes reading) (demand-3-finishes (R .run) (R .reading) E (R .tell) (rw (R .telling) t))
+
+-- and two such courses, of any rooms, orders and blocks, report alike.
+pub demand-3-rooms : {n k l : ℕ} {E : Links} {m w : Moment} → Finished n k E m → Finished n l E w → Alike m w
+demand-3-rooms c d = demand-3-alike (c .run) (d .run) refl (λ u v. c .read-set u v ∙ sym (d .read-set u v)) (c .read-whole) (d .read-whole)
+
 -- 'If passes told different lists, reading refuses or reports truly on the list it read last.'
 pub demand-3-whatever : {o : Origin} {m : Moment} → Run o m → InReading m
     → (closeAt m .answer ≡ refuses 9 0) ⊎ ((closeAt m .answer ≡ gives read) × (step m close .telling ≡ m .telling) × Truly (fragments o) (step m close))
@@ -165,14 +205,3 @@ demand-3-whatever {o} {m} r c =
       | no x ↦ inl (close-false H c x)
       | yes x ↦ let (z, e) = read-next H c x in inr (close-read H c x, e, demand-3-truly (goes r close) z)
     ]
-
--- 'The count of passes in the state equals the number of closes accepted since the start, those of Building only; after adopt it is 0.'
-pub pass-count : {o : Origin} {m : Moment} (r : Run o m) → m .state .passes ≡ acceptedCloses r
-pass-count r = run-holds r .counted ∙ sym (closes-told r)
-
-pub pass-count-adopted : {n k : ℕ} {ps : List ℕ} {m : Moment} → Run (adopt n k ps) m → m .state .passes ≡ 0
-pass-count-adopted r = run-holds r .counted ∙ ap length (adopted-settled r .1)
-
--- The entry count is that of the list told.
-pub entry-count : {o : Origin} {m : Moment} → Run o m → m .state .entries ≡ length (m .telling)
-entry-count r = run-holds r .entered

@@ -3,13 +3,13 @@
 use Prim.Native.Nat.{ℕ, _+_, _*_, _/_, _≤_}
 use mathlib.Core.Path.{_≡_, refl, sym, _∙_}
 use mathlib.Core.Bool.{Bool, true, false, _||_}
-use mathlib.Core.List.{List, [], _∷_, _++_}
+use mathlib.Core.List.{List, [], _∷_, _++_, append-nil}
 use native.Mathlib.Omega.{arith}
 use lib.ListN.{replicate}
 use Rattle.base.specs.Pick.{pick}
 use Rattle.base.specs.Answer.{gives, refuses}
 use Rattle.base.specs.Truth.{true-T}
-use Rattle.numbers.specs.Number.{onto, readGroups, atMost, readUpTo, readNumber, groupsOf, writtenNumber}
+use Rattle.numbers.specs.Number.{onto, readGroups, atMost, readUpTo, readNumber, groupsOf, writtenNumber, put, writeUpTo, writeNumber}
 use Rattle.lists.specs.List.{andThen, placed as placedAt, joins, counts, readEnds, readLink as readLinkAt, before, linksIn, linksAt, blockLinks, writtenLinks}
 use Rattle.lists.specs.Link.{never-both}
 use Rattle.rules.specs.Links.{Link, between, linked, tally, SameSet}
@@ -33,11 +33,11 @@ use Rattle.state.specs.Ask.{askOne, askTwo, parentCall, cutCall, soleCall}
 use Rattle.state.specs.Laws.Keeps.{AsFound}
 use Rattle.state.specs.declared.Stage.the-variants.{Built, Reading, Read}
 use Rattle.demands.specs.Run.{Origin, start, adopt, Call, take, close, openReading, Moment, afterTake, afterClose, afterOpen, takeAt, closeAt, openAt, soleAt, step, begunBy, opening, Run, begins, goes, acceptedCloses, calledCloses, tablesAt}
-use Rattle.demands.specs.Course.{after}
+use Rattle.demands.specs.Course.{after, Adds, none, more, PassTells, buildCalls, readCalls}
 use Rattle.demands.specs.Courses.{follow}
-use Rattle.demands.specs.Claims.{Leading, NotesLost, Alike}
+use Rattle.demands.specs.Claims.{Leading, NotesLost, Alike, Finished}
 use Rattle.demands.specs.Runs.{given-same}
-use Rattle.demands.specs.Demands.{demand-1-take, demand-1-open, demand-1-close, demand-1-start, demand-1-adopt, demand-1-false, demand-2-adopts, demand-2-forest, demand-2-adopted, demand-3-accepts, demand-3-truly, demand-3-alike, pass-count}
+use Rattle.demands.specs.Demands.{demand-1-take, demand-1-open, demand-1-close, demand-1-start, demand-1-adopt, demand-1-false, demand-2-adopts, demand-2-forest, demand-2-adopted, demand-3-accepts, demand-3-truly, demand-3-alike, demand-3-course, demand-2-numbers, pass-count}
 
 -- Tables with words of another use in them.
 abbrev lent : ℕ → List ℕ
@@ -96,12 +96,15 @@ record Computed : Type 0 where
   none-started : startCall 0 1 (lent 1) [] .answer ≡ refuses 1 0
   cycle-adopted : adoptCall 2 1 (1 ∷ 0 ∷ []) (lent 32) (lent 2) .answer ≡ refuses 10 0
   cycle-bounds : boundsRefusal 2 1 32 2 ≡ 0
+  square-block : blockLinks 4 0 (writtenLinks square) ≡ gives square
+  square-bounds : boundsRefusal 4 1 64 4 ≡ 0
+  number-written : writeNumber 128 (lent 2) 0 .answer ≡ gives 2
   false-reading : p8-reading .state .stage ≡ Reading
   false-telling : p8-reading .telling ≡ triangle
   false-close : closeAt p8-reading .answer ≡ refuses 9 0
 
 computed : Computed
-unfolding pick between linked tally up depth count some every first least table listed parentOf rank noteOf markOf placed par lev fresh place putNote putMark putHeld putCrossed cleared alone merged piecesFrom pieces member sizeOf heldIn better noteLink hold fill holdLink buildLink buildLinks noted topOf hang nextOf reachNext goBack walkStep walkSteps walked placePath lost placeWalk placePiece placeFrom placePieces closeBuilding done rootedIn adoptable adopted above hear readLink readLinks seen accepted lowest reach childOf soleBelow sole cut rootOf piece square triangle onto readGroups atMost readUpTo readNumber groupsOf writtenNumber andThen placedAt joins counts readEnds readLinkAt before linksIn linksAt blockLinks writtenLinks section linkIn wordOf tablesIn zeroed fragOf heldOf asked allZero stageFits standsAt forestFits endsFit noneTwice quotaFits heldFits noteFits clearAt lowFits notesFit restZero countsFit readFits markFits restAgrees fits sound boundsRefusal headRefusal headed moved leaves startCall adoptRefusal adoptCall tell taken takeIn takeCall openCall endBuilding endReading closeIn closeCall askOne askTwo parentCall cutCall soleCall afterTake afterClose afterOpen step begunBy opening after startedAt adoptedAt
+unfolding pick between linked tally up depth count some every first least table listed parentOf rank noteOf markOf placed par lev fresh place putNote putMark putHeld putCrossed cleared alone merged piecesFrom pieces member sizeOf heldIn better noteLink hold fill holdLink buildLink buildLinks noted topOf hang nextOf reachNext goBack walkStep walkSteps walked placePath lost placeWalk placePiece placeFrom placePieces closeBuilding done rootedIn adoptable adopted above hear readLink readLinks seen accepted lowest reach childOf soleBelow sole cut rootOf piece square triangle onto readGroups atMost readUpTo readNumber groupsOf writtenNumber andThen placedAt joins counts readEnds readLinkAt before linksIn linksAt blockLinks writtenLinks section linkIn wordOf tablesIn zeroed fragOf heldOf asked allZero stageFits standsAt forestFits endsFit noneTwice quotaFits heldFits noteFits clearAt lowFits notesFit restZero countsFit readFits markFits restAgrees fits sound boundsRefusal headRefusal headed moved leaves startCall adoptRefusal adoptCall tell taken takeIn takeCall openCall endBuilding endReading closeIn closeCall askOne askTwo parentCall cutCall soleCall afterTake afterClose afterOpen step begunBy opening after startedAt adoptedAt put writeUpTo writeNumber
 computed = record {
   start-4-1 = refl;
   start-4-2 = refl;
@@ -120,7 +123,7 @@ computed = record {
   far-taken = refl;
   false-reading = refl;
   false-telling = refl;
-  false-close = refl;
+  false-close = refl; square-block = refl; square-bounds = refl; number-written = refl;
   early-open = refl;
   late-close = refl;
   none-started = refl;
@@ -208,3 +211,20 @@ met-count = sym (pass-count (from-4-1 twice)) ∙ computed .built-passes
 pub met-ends : (4 + 1) / (1 + 1) ≤ calledCloses (from-4-1 twice)
 unfolding calledCloses from-4-1 follow after startedAt
 met-ends = omega arith
+
+-- P1's links, in four passes and a reading pass of one block each: the whole course. (The last two passes are refused with 6.)
+tells-square : PassTells 4 (linked square) (writtenLinks square ∷ [])
+tells-square = (square ++ [], more (computed .square-block) none, rw append-nil (λ u v. refl))
+
+abbrev one-block : List (List ℕ)
+one-block = writtenLinks square ∷ []
+
+pub met-course : Finished 4 1 (linked square) (after (startedAt 4 1) (buildCalls (one-block ∷ one-block ∷ one-block ∷ one-block ∷ []) ++ readCalls one-block))
+unfolding startedAt
+met-course =
+    demand-3-course 4 1 (lent 64) (lent 4) (computed .square-bounds) (linked square) (one-block ∷ one-block ∷ one-block ∷ one-block ∷ []) one-block
+    (tells-square, (tells-square, (tells-square, (tells-square, tt)))) tells-square (omega arith)
+
+-- 128 is 80 01.
+pub met-number : readNumber (writeNumber 128 (lent 2) 0 .buffer) 0 ≡ gives (record { value = 128; next = 2 })
+met-number = demand-2-numbers 128 (lent 2) 0 2 (computed .number-written)
