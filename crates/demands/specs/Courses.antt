@@ -7,9 +7,7 @@ use mathlib.Core.Logic.{_⊎_, inl, inr}
 use native.Mathlib.Omega.{arith}
 use lib.Dec.{T}
 use lib.ListN.{length, length-append}
-use Rattle.base.specs.Answer.{gives}
-use Rattle.base.specs.Truth.{T-dec, or-l, or-r}
-use Rattle.lists.specs.List.{blockLinks}
+use Rattle.base.specs.Truth.{T-dec, or-l}
 use Rattle.rules.specs.Links.{Link, Links}
 use Rattle.rules.specs.Building.{closeBuilding, done}
 use Rattle.rules.specs.Laws.Partial.{Tells, Each}
@@ -22,9 +20,9 @@ use Rattle.state.specs.Laws.KeepsBegun.{start-makes}
 use Rattle.state.specs.declared.State.{State}
 use Rattle.state.specs.declared.Stage.{Stage}
 use Rattle.state.specs.declared.Stage.the-variants.{Building, Built, Reading, Read}
-use Rattle.demands.specs.Run.{Origin, start, Call, take, close, openReading, Moment, step, begunBy, opening, Run, begins, goes, fragments, tablesAt}
+use Rattle.demands.specs.Run.{Origin, start, Call, take, close, openReading, Moment, step, begunBy, opening, Run, begins, goes, tablesAt}
 use Rattle.demands.specs.Course.{after, Adds, none, more, PassTells, AllTell, passCalls, buildCalls, readCalls}
-use Rattle.demands.specs.Steps.{Leads, take-off, take-on, close-off, whole-on, more-on, open-on}
+use Rattle.demands.specs.Steps.{take-off, take-on, close-off, whole-on, more-on, open-on}
 use Rattle.demands.specs.Runs.{run-holds}
 use Rattle.demands.specs.Results.{below-ceiling}
 
@@ -51,7 +49,7 @@ takes-blocks r n e p q c [] g none = record { same-stage = refl; same-told = ref
 takes-blocks {o} {m} r n e p q c (block ∷ blocks) g (more {g = a} {h = b} x y) =
     let L = take-on m (run-holds r .tested) block c a (rw (p, q) x) in
     let K = takes-blocks (goes r (take block)) n (e + length a) (ap (λ (s : State). s .n) (L .state) ∙ p) (ap (λ (s : State). s .entries) (L .state) ∙ ap (λ (i : ℕ). i + length a) q)
-        (rw (L .state) c) blocks b y in
+    (rw (L .state) c) blocks b y in
     record {
       same-stage = K .same-stage ∙ ap (λ (s : State). s .stage) (L .state);
       same-told = K .same-told ∙ L .as-told;

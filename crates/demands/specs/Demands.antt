@@ -1,5 +1,5 @@
 -- Demands 1 to 3 of the letter, over the definitions of the calls and runs of them, to be read alone. Behind each theorem stands the instance of P1 to P10
--- that meets its premises (Met.antt).
+-- that meets its premises (Met.antt). That P1 to P10 themselves hold of the calls, as one table, is Known.known-calls.
 -- Assumes nothing.
 use Prim.Native.Nat.{ℕ, _+_, _-_, _/_, _≤_, _<_}
 use mathlib.Core.Path.{_≡_, refl, sym, ap, _∙_, fun-ext}
@@ -47,7 +47,8 @@ use Rattle.demands.specs.Answers.{never-eleven, parent-asked, truly-at, 
 -- Demand 1. 'Every call, with every list, table and number, ends and touches nothing outside what was lent' is what the prover shows of every function;
 -- 'Bad input gets the refusal that document 01 names for it' is each call's promise.
 
--- 'a refused call changes no byte': of any state and any tables, those of no run included. (A question leaves nothing: it has only an answer.)
+-- 'a refused call changes no byte': of any state and any tables, those of no run included. (A question leaves nothing: it has only an answer. Met: met-refused,
+-- met-open, met-close.)
 pub demand-1-take : (s : State) (f h block : List ℕ) (number place : ℕ) → takeCall s f h block .answer ≡ refuses number place → AsFound s f h (takeCall s f h block)
 demand-1-take = take-unchanged
 
@@ -57,14 +58,14 @@ demand-1-open = open-unchanged
 pub demand-1-close : (s : State) (f h : List ℕ) (number place : ℕ) → number ≢ 9 → closeCall s f h .answer ≡ refuses number place → AsFound s f h (closeCall s f h)
 demand-1-close s f h = close-keeps s f h .same
 
--- A refused start or adopt leaves the words as they were lent.
+-- A refused start or adopt leaves the words as they were lent. (met-start; P10: met-adopt.)
 pub demand-1-start : (n k : ℕ) (f h : List ℕ) (number place : ℕ) → startCall n k f h .answer ≡ refuses number place → (startCall n k f h .frag ≡ f) × (startCall n k f h .held ≡ h)
 demand-1-start n k f h = start-keeps n k f h .same
 
 pub demand-1-adopt : (n k : ℕ) (ps f h : List ℕ) (number place : ℕ) → adoptCall n k ps f h .answer ≡ refuses number place → (adoptCall n k ps f h .frag ≡ f) × (adoptCall n k ps f h .held ≡ h)
 demand-1-adopt n k ps f h = adopt-keeps n k f h ps .same
 
--- 'only a false reading pass loses its notes'
+-- 'only a false reading pass loses its notes' (P8: met-lost.)
 pub demand-1-false : (s : State) (f h : List ℕ) (place : ℕ) → closeCall s f h .answer ≡ refuses 9 place → NotesLost s f h (closeCall s f h)
 demand-1-false = close-loses
 
@@ -90,7 +91,7 @@ demand-1-opens {o} {m} r c = open-makes (m .state) (m .frag) (m .held) (run-hold
 pub demand-2-rules : {o : Origin} {m : Moment} → Run o m → tablesAt m ≡ tablesOf o m
 demand-2-rules r = run-holds r .tables
 
--- 'Where every pass told the same links, the finished table is a depth-first forest of them'
+-- 'Where every pass told the same links, the finished table is a depth-first forest of them' (P1: met-forest.)
 pub demand-2-forest : {n k : ℕ} {m : Moment} → Run (start n k) m → (InBuilding m → ⊥) → (E : Links) → Each (Tells E) (m .told) → DepthFirst n (par (tablesAt m)) E
 demand-2-forest r = forest-finished (run-holds r)
 
@@ -98,7 +99,7 @@ demand-2-forest r = forest-finished (run-holds r)
 pub demand-2-parents : {o : Origin} {m : Moment} → Run o m → (InBuilding m → ⊥) → (v : ℕ) → v < fragments o → parentAt m v ≡ gives (par (tablesAt m) v)
 demand-2-parents r = parent-asked (run-holds r)
 
--- A reading pass is accepted exactly when the table, adopted or built, is a depth-first forest of what it told; else it is refused with 9.
+-- A reading pass is accepted exactly when the table, adopted or built, is a depth-first forest of what it told; else it is refused with 9. (P1: met-accepts; P8: met-none.)
 pub demand-2-reading : {o : Origin} {m : Moment} → Run o m → InReading m → (closeAt m .answer ≡ gives read) ↔ DepthFirst (fragments o) (par (tablesAt m)) (linked (m .telling))
 demand-2-reading r = close-exactly (run-holds r)
 
@@ -110,7 +111,7 @@ demand-2-false {o} {m} r c =
       (λ d. close-false H c (λ x. d (A .0 x))),
     )
 
--- A table of parents is adopted exactly when its parents are fragments and lead to roots; else it is refused with 10.
+-- A table of parents is adopted exactly when its parents are fragments and lead to roots; else it is refused with 10. (P10: met-cycle.)
 module _ (n k : ℕ) (ps f h : List ℕ) (b : boundsRefusal n k (length f) (length h) ≡ 0) (l : n ≤ length ps) where
   pub demand-2-adopts : Leading n ps → adoptCall n k ps f h .answer ≡ gives (adoptedState n k)
   demand-2-adopts x = adopt-good n k ps f h b l (adoptable-exact n ps .1 x)
@@ -118,11 +119,11 @@ module _ (n k : ℕ) (ps f h : List ℕ) (b : boundsRefusal n k (length f) (leng
   pub demand-2-ten : (Leading n ps → ⊥) → adoptCall n k ps f h .answer ≡ refuses 10 0
   demand-2-ten x = adopt-ten n k ps f h b l (λ q. x (adoptable-exact n ps .0 q))
 
--- 'A forest from elsewhere is accepted exactly when this holds', of the parents as they were given.
+-- 'A forest from elsewhere is accepted exactly when this holds', of the parents as they were given. (P8: met-none.)
 pub demand-2-adopted : {n k : ℕ} {ps : List ℕ} {m : Moment} → Run (adopt n k ps) m → InReading m → (closeAt m .answer ≡ gives read) ↔ DepthFirst n (parentIn ps) (linked (m .telling))
 demand-2-adopted r c = let (i, j) = demand-2-reading r c in let (p, q) = adopted-forest r in (λ e. p (i e), λ d. j (q d))
 
--- 'Numbers are written and read back alike.'
+-- 'Numbers are written and read back alike.' (met-number.)
 pub demand-2-numbers : (v : ℕ) (buffer : List ℕ) (at end : ℕ) → writeNumber v buffer at .answer ≡ gives end → readNumber (writeNumber v buffer at .buffer) at ≡ gives (record { value = v; next = end })
 demand-2-numbers = written-read
 
@@ -146,26 +147,26 @@ pub entry-count : {o : Origin} {m : Moment} → Run o m → m .state .entries �
 entry-count r = run-holds r .entered
 
 -- Demand 3. 'building with room k for n fragments ends within n/k passes, rounded up': so many closes are accepted in Building at most, whatever was told,
--- and even n/(k + 1), rounded up.
+-- and even n/(k + 1), rounded up. (P1 reaches that: met-count.)
 pub demand-3-ceiling : {n k : ℕ} {m : Moment} (r : Run (start n k) m) → (acceptedCloses r ≤ (n + k - 1) / k) × (acceptedCloses r ≤ (n + k) / (k + 1))
 demand-3-ceiling r = rw (closes-told r) (within-ceiling r)
 
--- It ends: a run that has called close so many times is out of Building, whatever else it called.
+-- It ends: a run that has called close so many times is out of Building, whatever else it called. (P1: met-ends.)
 pub demand-3-ends : {n k : ℕ} {m : Moment} (r : Run (start n k) m) → ((n + k - 1) / k ≤ calledCloses r) ⊎ ((n + k) / (k + 1) ≤ calledCloses r) → InBuilding m → ⊥
 demand-3-ends r (inl l) b = omega (arith, all-accepted r b, below-ceiling (run-holds r) b)
 demand-3-ends r (inr l) b = omega (arith, all-accepted r b, below-more (run-holds r) b)
 
--- 'Where every pass tells the same set of links, in any order, .. the reading pass accepts'
+-- 'Where every pass tells the same set of links, in any order, .. the reading pass accepts' (P1: met-accepts.)
 pub demand-3-accepts : {n k : ℕ} {m : Moment} → Run (start n k) m → InReading m → (E : Links) → Each (Tells E) (m .told) → Tells E (m .telling) → closeAt m .answer ≡ gives read
 demand-3-accepts {n} {k} {m} r c E e t =
     let same : E ≡ linked (m .telling) = sym (fun-ext (λ u. fun-ext (t u))) in
     demand-2-reading r c .1 (rw same at (demand-2-forest r (reads-settled (m .state .stage) c) E e))
 
--- 'The pieces, sole links and cut fragments reported are then those that taking the link or fragment away would show.' In Read of every run, built or adopted.
+-- 'The pieces, sole links and cut fragments reported are then those that taking the link or fragment away would show.' In Read of every run, built or adopted. (P1: met-sole.)
 pub demand-3-truly : {o : Origin} {m : Moment} → Run o m → InRead m → Truly (fragments o) m
 demand-3-truly r = truly-at (run-holds r)
 
--- 'Two rooms, or two orders, give equal reports of these': two runs on n fragments, of any rooms, orders and blocks, that read lists of one set.
+-- 'Two rooms, or two orders, give equal reports of these': two runs on n fragments, of any rooms, orders and blocks, that read lists of one set. (P1 and P2: met-alike.)
 pub demand-3-alike : {o q : Origin} {m w : Moment} → Run o m → Run q w → fragments o ≡ fragments q → SameSet (m .telling) (w .telling) → InRead m → InRead w → Alike m w
 demand-3-alike r z = alike-at (run-holds r) (run-holds z)
 
@@ -184,7 +185,7 @@ demand-3-finishes {n} {k} {m} r c E e t =
     }
 
 -- The whole of it in calls, for every n and k within their bounds, every lent table long enough, every set E and every blocks: start, then passes that each tell E,
--- as many as the ceiling says or more (those past the last are refused with 6), then a reading pass that tells E. It ends in Read.
+-- as many as the ceiling says or more (those past the last are refused with 6), then a reading pass that tells E. It ends in Read. (P1: met-course.)
 pub demand-3-course : (n k : ℕ) (f h : List ℕ) → boundsRefusal n k (length f) (length h) ≡ 0 → (E : Links) (passes : List (List (List ℕ))) (reading : List (List ℕ))
     → AllTell n E passes → PassTells n E reading → (n + k - 1) / k ≤ length passes
     → Finished n k E (after (opening (started n k) (begunBy (start n k) f h)) (buildCalls passes ++ readCalls reading))

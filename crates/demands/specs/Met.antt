@@ -32,8 +32,8 @@ use Rattle.state.specs.Close.{read, openCall, endBuilding, endReading, closeIn,
 use Rattle.state.specs.Ask.{askOne, askTwo, parentCall, cutCall, soleCall}
 use Rattle.state.specs.Laws.Keeps.{AsFound}
 use Rattle.state.specs.declared.Stage.the-variants.{Built, Reading, Read}
-use Rattle.demands.specs.Run.{Origin, start, adopt, Call, take, close, openReading, Moment, afterTake, afterClose, afterOpen, takeAt, closeAt, openAt, soleAt, step, begunBy, opening, Run, begins, goes, acceptedCloses, calledCloses, tablesAt}
-use Rattle.demands.specs.Course.{after, Adds, none, more, PassTells, buildCalls, readCalls}
+use Rattle.demands.specs.Run.{start, adopt, Call, take, close, openReading, Moment, afterTake, afterClose, afterOpen, takeAt, closeAt, openAt, soleAt, step, begunBy, opening, Run, begins, acceptedCloses, calledCloses, tablesAt}
+use Rattle.demands.specs.Course.{after, none, more, PassTells, buildCalls, readCalls}
 use Rattle.demands.specs.Courses.{follow}
 use Rattle.demands.specs.Claims.{Leading, NotesLost, Alike, Finished}
 use Rattle.demands.specs.Runs.{given-same}
@@ -123,7 +123,10 @@ computed = record {
   far-taken = refl;
   false-reading = refl;
   false-telling = refl;
-  false-close = refl; square-block = refl; square-bounds = refl; number-written = refl;
+  false-close = refl;
+  square-block = refl;
+  square-bounds = refl;
+  number-written = refl;
   early-open = refl;
   late-close = refl;
   none-started = refl;
