@@ -30,4 +30,5 @@ pub mod Reading
 pub mod Without
 pub mod Reports
 pub mod Adopting
+pub mod Append
 pub mod MetReading

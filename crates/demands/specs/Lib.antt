@@ -1,0 +1,13 @@
+pub mod Run
+pub mod Course
+pub mod Claims
+pub mod Known
+pub mod Steps
+pub mod Runs
+pub mod Refusals
+pub mod Results
+pub mod Counts
+pub mod Answers
+pub mod Courses
+pub mod Demands
+pub mod Met
