@@ -13,7 +13,8 @@ use Rattle.base.specs.Truth.{T-dec}
 use Rattle.numbers.specs.Number.{readNumber, writtenNumber, Numeral, writeNumber}
 use Rattle.numbers.specs.Words.{Bytes}
 use Rattle.numbers.specs.Laws.{written-read, number-form}
-use Rattle.lists.specs.List.{andThen, shifted, blockLinks}
+use Rattle.lists.specs.List.{andThen, blockLinks}
+use Rattle.lists.specs.Words.{shifted}
 use Rattle.lists.specs.Link.{never-both}
 use Rattle.lists.specs.Laws.{blocks-join}
 use Rattle.rules.specs.Links.{Link, Links, linked, SameSet}

@@ -18,3 +18,5 @@ pub mod KeepsTables
 pub mod KeepsCalls
 pub mod KeepsLeft
 pub mod KeepsBegun
+pub mod Tests
+pub mod Told

@@ -9,3 +9,4 @@ pub mod Ask
 pub mod Told
 pub mod Laws
 pub mod Theorems
+pub mod Unique

@@ -20,7 +20,7 @@ use Rattle.rules.specs.Laws.Close.{not-placed, closing}
 use Rattle.rules.specs.Laws.Closed.{close-grows}
 
 -- The links that the tables themselves tell: those noted and those held.
-abbrev shown : Tables → Links
+abbrev pub shown : Tables → Links
 shown t u v = eqb (noteOf t u) (suc v) || linked (t .held) u v
 
 module _ {n k : ℕ} {t : Tables} (U : Underway n k t) where
@@ -40,7 +40,7 @@ module _ {n k : ℕ} {t : Tables} (U : Underway n k t) where
     | inr l ↦ l
   ]
 
-  learnt-shown : Learnt n k (shown t) t
+  pub learnt-shown : Learnt n k (shown t) t
   learnt-shown = record {
     note-of = λ u p e. let (i, j, l, q) = U .noting u p e in (i, j, l, q, noted-shown u p e);
     note-best = λ u p s l q. (p, shown-noted u p s q, omega arith);

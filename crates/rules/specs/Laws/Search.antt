@@ -67,6 +67,14 @@ first-step p n = elim (decLt (first p n) n) [
   ]
 ]
 
+pub first-le : (p : ℕ → Bool) (n : ℕ) → first p n ≤ n
+first-le p zero = rw first-zero (omega arith)
+first-le p (suc n) = elim (first-step p n) [
+  | inl a ↦ omega (arith, a)
+  | inr (inl a) ↦ omega (arith, a)
+  | inr (inr a) ↦ omega (arith, a)
+]
+
 -- Where one passes, the first does.
 pub first-passes : (p : ℕ → Bool) (n : ℕ) → first p n < n → T (p (first p n))
 first-passes p zero h = absurd (omega arith)

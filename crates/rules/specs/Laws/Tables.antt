@@ -1,6 +1,6 @@
 -- Laws of what is read from the tables after a part of them changed, and of a forest that stands.
 -- Assumes nothing.
-use Prim.Native.Nat.{ℕ, suc, pred, _<_}
+use Prim.Native.Nat.{ℕ, suc, pred, _≤_, _<_}
 use mathlib.Core.Path.{_≡_, refl, ap, _∙_}
 use mathlib.Core.Bool.{Bool, cond}
 use mathlib.Core.List.{List}
@@ -14,6 +14,7 @@ use Rattle.base.specs.Truth.{T-true, T-false}
 use Rattle.rules.specs.Links.{Link}
 use Rattle.rules.specs.Tables.{Tables, parentOf, rank, noteOf, markOf, placed, par, lev, fresh, place, putNote, putMark, putHeld, putCrossed, cleared}
 use Rattle.rules.specs.Laws.Facts.{Levels, Standing, Loose, Rested}
+use Rattle.rules.specs.Laws.Up.{level-below}
 
 -- What is read of one fragment.
 module _ (t : Tables) (v : ℕ) where
@@ -306,3 +307,10 @@ module _ {n : ℕ} {t : Tables} (v p r : ℕ) (S : Standing n t) (h : v < n) (e 
           ]
         ];
       }
+
+-- No fragment is deeper than there are fragments.
+pub rank-most : {n : ℕ} {t : Tables} → Standing n t → (v : ℕ) → v < n → rank t v ≤ n
+unfolding lev
+rank-most {n} {t} S v h =
+    let b : pred (rank t v) < n = level-below (standing-levels S) v h in
+    omega arith

@@ -257,7 +257,7 @@ module _ {n top : ℕ} {t : Tables} (R : Ready n top t) where
 
 -- The smallest unreached neighbour, where there is one.
 module _ (n : ℕ) (w : Tables) (at : ℕ) where
-  next-new : nextOf n w at < n → T (linked (w .held) at (nextOf n w at)) × Loose w (nextOf n w at)
+  pub next-new : nextOf n w at < n → T (linked (w .held) at (nextOf n w at)) × Loose w (nextOf n w at)
   unfolding nextOf
   next-new h =
       let x = nextOf n w at in
@@ -323,11 +323,11 @@ pick-deeper a b x d = elim (decLt a b) [
 ]
 
 -- The three kinds of a step.
-step-on : (n top : ℕ) (w : Walk) → nextOf n (w .tables) (w .at) < n → walkStep n top w ≡ reachNext (nextOf n (w .tables) (w .at)) w
+pub step-on : (n top : ℕ) (w : Walk) → nextOf n (w .tables) (w .at) < n → walkStep n top w ≡ reachNext (nextOf n (w .tables) (w .at)) w
 unfolding walkStep
 step-on n top w h = rw (lt-ltb _ _ h) (pick-true _ _)
 
-step-back : (n top : ℕ) (w : Walk) → n ≤ nextOf n (w .tables) (w .at) → walkStep n top w ≡ goBack top w
+pub step-back : (n top : ℕ) (w : Walk) → n ≤ nextOf n (w .tables) (w .at) → walkStep n top w ≡ goBack top w
 unfolding walkStep
 step-back n top w h = rw (le-ltb _ _ h) (pick-false _ _)
 
@@ -339,19 +339,19 @@ back-deepest : (top : ℕ) (w : Walk) → goBack top w .deepest ≡ w .deepest
 unfolding goBack
 back-deepest top w = refl
 
-back-at : (top : ℕ) (w : Walk) → w .at ≢ top → goBack top w .at ≡ parentOf (w .tables) (w .at)
+pub back-at : (top : ℕ) (w : Walk) → w .at ≢ top → goBack top w .at ≡ parentOf (w .tables) (w .at)
 unfolding goBack
 back-at top w d = rw (ne-eqb (w .at) top d) (pick-false _ _)
 
-back-rest : (top : ℕ) (w : Walk) → w .at ≡ top → goBack top w ≡ w
+pub back-rest : (top : ℕ) (w : Walk) → w .at ≡ top → goBack top w ≡ w
 unfolding goBack
 back-rest top w e = ap (λ (v : ℕ). record { tables = w .tables; at = v; deepest = w .deepest }) (rw (eq-eqb (w .at) top e) (pick-true _ _) ∙ sym e)
 
-steps-suc : (n top k : ℕ) (w : Walk) {z : Walk} → walkStep n top w ≡ z → walkSteps n top (suc k) w ≡ walkSteps n top k z
+pub steps-suc : (n top k : ℕ) (w : Walk) {z : Walk} → walkStep n top w ≡ z → walkSteps n top (suc k) w ≡ walkSteps n top k z
 unfolding walkSteps
 steps-suc n top k w e = ap (walkSteps n top k) e
 
-steps-rest : (n top : ℕ) (w : Walk) → walkStep n top w ≡ w → (k : ℕ) → walkSteps n top k w ≡ w
+pub steps-rest : (n top : ℕ) (w : Walk) → walkStep n top w ≡ w → (k : ℕ) → walkSteps n top k w ≡ w
 unfolding walkSteps
 steps-rest n top w e zero = refl
 steps-rest n top w e (suc k) = steps-suc n top k w e ∙ steps-rest n top w e k

@@ -1,0 +1,23 @@
+use Rattle.building.specs.Laws.Choosing.{top-root, top-first}
+use native.Mathlib.Omega.{arith}
+use borrow.Author.Needs.{needs}
+use Rattle.building.proofs.choose.top_of.Statement.{statement}
+use Rattle.building.proofs.choose.top_of.Tie as tie
+use Rattle.building.proofs.choose.top_of.Reads as reads
+use Rattle.building.proofs.choose.top_of.Lts as lts
+use Rattle.building.proofs.choose.first_noted.Reads as first-noted-reads
+
+-- src/choose.rt:80:9
+returns : tie.Need-returns
+returns c = top-root _ _ _ _ (omega arith)
+
+-- src/choose.rt:82:5
+first-noted-requires : tie.Need-first-noted-requires
+first-noted-requires c κs = search needs
+
+-- src/choose.rt:75:1
+returns-2 : tie.Need-returns-2
+returns-2 c = top-first _ _ _ _ (omega arith) _ (c .first-noted .ensures)
+
+pub top-of-spec : {M : Type 1} → statement M
+top-of-spec = tie.close (tie.spec returns first-noted-requires returns-2)

@@ -1,0 +1,71 @@
+use Prim.Native.Nat.{ℕ, _+_, _≤_, _<_, _-_}
+use mathlib.Core.Path.{_≡_}
+use native.Mathlib.Omega.{arith}
+use borrow.Author.Count.{below-more}
+use lib.ListN.{getD}
+use Rattle.building.specs.Laws.Ending.{not-done, all-done}
+use borrow.Author.Needs.{needs}
+use Rattle.building.proofs.closing.all_placed.Statement.{statement}
+use Rattle.building.proofs.closing.all_placed.Tie as tie
+use Rattle.building.proofs.closing.all_placed.Reads as reads
+use Rattle.building.proofs.closing.all_placed.Lts as lts
+
+abbrev Inv-loop : tie.InvT-loop
+Inv-loop frag n v₀ v = (v ≤ n) × ((k : ℕ) → k < v → getD frag (n + k) 0 ≡ 0 → ⊥)
+
+abbrev μ-loop : tie.MeasureT-loop
+μ-loop frag n v₀ v = n - v
+
+-- src/close.rt:64:5
+loop-holds : tie.Need-loop-holds Inv-loop μ-loop
+loop-holds c = (omega arith, λ k l e. omega arith)
+
+-- src/close.rt:65:17
+add-if1 : tie.Need-add-if1 Inv-loop μ-loop
+add-if1 c = search needs
+
+-- src/close.rt:65:12
+mul-if1 : tie.Need-mul-if1 Inv-loop μ-loop
+mul-if1 c = search needs
+
+-- src/close.rt:65:12
+shared-slice-read-if1 : tie.Need-shared-slice-read-if1 Inv-loop μ-loop
+shared-slice-read-if1 c = search needs
+
+-- src/close.rt:66:13
+returns : tie.Need-returns Inv-loop μ-loop
+returns c = not-done _ _ _ (omega arith) (c .if1 .taken)
+
+-- src/close.rt:68:9
+add-v : tie.Need-add-v Inv-loop μ-loop
+add-v c = search needs
+
+-- src/close.rt:64:5
+loop-less : tie.Need-loop-less Inv-loop μ-loop
+loop-less c = search needs
+
+-- src/close.rt:64:5
+loop-again : tie.Need-loop-again Inv-loop μ-loop
+loop-again c = let l = c .before .before .before .loop in (omega arith, below-more _ _ (l .inv .1) (c .if1 .left))
+
+-- src/close.rt:59:1
+returns-2 : tie.Need-returns-2 Inv-loop μ-loop
+returns-2 c = let l = c .before .loop in
+    let e : l .v ≡ c .before .before .args .n = omega arith in
+    all-done _ _ (rw e at (l .inv .1))
+
+pub all-placed-spec : {M : Type 1} → statement M
+all-placed-spec =
+    tie.close
+    (tie.spec
+    Inv-loop
+    μ-loop
+    loop-holds
+    add-if1
+    mul-if1
+    shared-slice-read-if1
+    returns
+    add-v
+    loop-less
+    loop-again
+    returns-2)

@@ -1,0 +1,45 @@
+-- `building::pieces::unite` meets its contract: both words of p grow by those of q, and q points to p.
+-- Assumes nothing.
+use mathlib.Core.Path.{_≡_, refl, sym, ap, _∙_}
+use native.Mathlib.Omega.{arith}
+use lib.ListN.{length-set}
+use Rattle.building.specs.Laws.Pieces.{united, unite-second}
+use borrow.Author.Needs.{needs}
+use Rattle.building.proofs.pieces.unite.Statement.{statement}
+use Rattle.building.proofs.pieces.unite.Tie as tie
+use Rattle.building.proofs.pieces.unite.Reads as reads
+use Rattle.building.proofs.pieces.unite.Lts as lts
+use Rattle.building.proofs.pieces.grow.Reads as grow-reads
+
+grow-requires-2 : tie.Need-grow-requires-2
+grow-requires-2 c κs = unite-second (c .before .before .before .before .before .before .pre) _ (c .before .before .before .grow .ensures)
+
+same-length : tie.Need-same-length
+same-length c = simp length-set (c .before .before .grow2 .kept .0 ∙ c .before .before .before .before .before .before .grow .kept .0)
+
+returns : tie.Need-returns
+unfolding united
+returns c = rw (c .before .before .grow2 .ensures) (rw (c .before .before .before .before .before .before .grow .ensures) refl)
+
+pub unite-spec : {M : Type 1} → statement M
+unite-spec =
+    tie.close
+    (tie.spec
+    (λ c. search needs)
+    (λ c. search needs)
+    (λ c. search needs)
+    (λ c. search needs)
+    (λ c κs. search needs)
+    (λ c. search needs)
+    (λ c. search needs)
+    (λ c. search needs)
+    (λ c. search needs)
+    grow-requires-2
+    (λ c. search needs)
+    (λ c. search needs)
+    (λ c. search needs)
+    (λ c. search needs)
+    (λ c. search needs)
+    (λ c. search needs)
+    same-length
+    returns)

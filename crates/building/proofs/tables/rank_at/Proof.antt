@@ -1,0 +1,21 @@
+-- `building::tables::rank_at` meets its contract: the word of v in its section.
+-- Assumes nothing.
+use mathlib.Core.List.{[]}
+use mathlib.Core.Path.{_∙_}
+use Rattle.state.specs.Layout.{bare}
+use Rattle.state.specs.Laws.Layout.{level-word}
+use borrow.Author.Needs.{needs}
+use borrow.Author.Needs.{needs}
+use Rattle.building.proofs.tables.rank_at.Statement.{statement}
+use Rattle.building.proofs.tables.rank_at.Tie as tie
+use Rattle.building.proofs.tables.rank_at.Reads as reads
+use Rattle.building.proofs.tables.rank_at.Lts as lts
+use Rattle.building.proofs.tables.wide.Reads as wide-reads
+
+returns : tie.Need-returns
+returns c =
+    let a = c .before .before .before .args in
+    record { says = c .wide .ensures .says ∙ level-word (bare (a .n)) (a .frag .now) [] (a .v) (c .before .before .before .pre .1); small = c .wide .ensures .small }
+
+pub rank-at-spec : {M : Type 1} → statement M
+rank-at-spec = tie.close (tie.spec (λ c. search needs) (λ c. search needs) (λ c. search needs) (λ c κs. search needs) returns)

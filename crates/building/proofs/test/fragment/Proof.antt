@@ -1,0 +1,37 @@
+-- `building::test::fragment` meets its contract: one law for each answer.
+-- Assumes nothing.
+use mathlib.Core.Path.{sym, _∙_}
+use native.Mathlib.Omega.{arith}
+use borrow.Author.Needs.{needs}
+use borrow.Author.Tests.{not-true, not-false}
+use Rattle.building.specs.Laws.Check.{fits-loose, fits-fallen, fits-placed}
+use borrow.Author.Needs.{needs}
+use Rattle.building.proofs.test.fragment.Statement.{statement}
+use Rattle.building.proofs.test.fragment.Tie as tie
+use Rattle.building.proofs.test.fragment.Reads as reads
+use Rattle.building.proofs.test.fragment.Lts as lts
+use Rattle.building.proofs.tables.rank_at.Reads as rank-at-reads
+use Rattle.building.proofs.test.clear.Reads as clear-reads
+use Rattle.building.proofs.test.stands.Reads as stands-reads
+use Rattle.building.proofs.test.waits.Reads as waits-reads
+
+returns : tie.Need-returns
+returns c = fits-loose _ _ _ _ (c .before .before .rank-at .ensures .says) (omega arith) _ (c .waits .ensures)
+
+returns-2 : tie.Need-returns-2
+returns-2 c = fits-fallen _ _ _ _ (c .before .before .before .rank-at .ensures .says) (omega arith) (sym (not-true _ (c .if2 .taken)) ∙ c .before .stands .ensures)
+
+returns-3 : tie.Need-returns-3
+returns-3 c = fits-placed _ _ _ _ (c .before .before .before .before .rank-at .ensures .says) (omega arith) (sym (not-false _ (c .before .if2 .left)) ∙ c .before .before .stands .ensures) _ (c .clear .ensures)
+
+pub fragment-spec : {M : Type 1} → statement M
+fragment-spec =
+    tie.close
+    (tie.spec
+    (λ c κs. search needs)
+    (λ c κs. search needs)
+    returns
+    (λ c κs. search needs)
+    returns-2
+    (λ c κs. search needs)
+    returns-3)

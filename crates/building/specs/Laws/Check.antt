@@ -1,0 +1,296 @@
+-- The answers of the test in Building, fragment by fragment and link by link, and what they come to.
+-- Assumes nothing.
+use Prim.Native.Nat.{ℕ, suc, pred, _+_, _-_, _*_, _≤_, _<_}
+use mathlib.Core.Path.{_≡_, sym, ap, _∙_}
+use mathlib.Core.Bool.{Bool, true, false, not}
+use mathlib.Core.List.{List, [], _∷_, map}
+use native.Mathlib.Omega.{arith}
+use native.Mathlib.Decide.{ℕ-discrete}
+use native.Mathlib.Nat.{mul-le-mul}
+use native.Mathlib.Numerals.{add-one}
+use lib.Dec.{eqb, leb}
+use lib.ListN.{length, getD, take, drop}
+use lib.Seq.{drop-cons}
+use borrow.Author.Tests.{lt-ltb, eq-eqb, ne-eqb}
+use Rattle.base.specs.Pick.{tests}
+use Rattle.base.specs.Truth.{true-T}
+use Rattle.rules.specs.Links.{Link, between, linked}
+use Rattle.rules.specs.Search.{count, every}
+use Rattle.rules.specs.Tables.{Tables, parentOf, rank, noteOf, markOf, placed}
+use Rattle.rules.specs.Laws.Search.{count-zero}
+use Rattle.rules.specs.Laws.Split.{bit, count-suc}
+use Rattle.rules.specs.Building.{pieces, member, sizeOf, heldIn}
+use Rattle.rules.specs.Laws.Pieces.{label-le}
+use Rattle.state.specs.Layout.{linkIn, forestIn}
+use Rattle.state.specs.Test.{entriesMost, asked, standsAt, clearAt, endsFit, noneTwice, quotaFits}
+use Rattle.state.specs.Laws.Held.{ends-known}
+use Rattle.state.specs.Laws.Tests.{every-none, every-more, every-fails}
+use Rattle.state.specs.declared.State.{State}
+use Rattle.building.specs.Pieces.{Gatherable}
+use Rattle.building.specs.Check.{waitsAt, fragmentFits, stateFits, linkFits, pieceFits, Tells, linksFit, Lookable}
+
+-- Whether a fragment is placed, by its word r.
+module _ (t : Tables) (v r : ℕ) (er : r ≡ rank t v) where
+  pub placed-so : (r ≡ 0 → ⊥) → placed t v ≡ true
+  unfolding placed
+  placed-so d = let o : 0 < r = omega arith in rw (← er, lt-ltb 0 r o)
+
+  pub placed-not : r ≡ 0 → placed t v ≡ false
+  unfolding placed
+  placed-not e = rw (← er, e)
+
+  pub placed-is : not (eqb r 0) ≡ placed t v
+  placed-is = elim (ℕ-discrete r 0) [
+    | yes e ↦ rw (eq-eqb r 0 e, placed-not e)
+    | no d ↦ rw (ne-eqb r 0 d, placed-so d)
+  ]
+
+  pub loose-is : eqb r 0 ≡ not (placed t v)
+  loose-is = elim (ℕ-discrete r 0) [
+    | yes e ↦ rw (eq-eqb r 0 e, placed-not e)
+    | no d ↦ rw (ne-eqb r 0 d, placed-so d)
+  ]
+
+-- An unplaced fragment, by its words.
+module _ (n : ℕ) (t : Tables) (v p : ℕ) (ep : p ≡ parentOf t v) where
+  pub waits-child : (p ≡ 0 → ⊥) → false ≡ waitsAt n t v
+  unfolding waitsAt
+  waits-child d = rw (← ep) (simp tests)
+
+  module _ (h1 : p ≡ 0) (m : ℕ) (em : m ≡ markOf t v) where
+    pub waits-marked : 1 < m → false ≡ waitsAt n t v
+    unfolding waitsAt
+    waits-marked d = rw (← ep, ← em) (simp tests)
+
+    module _ (h2 : m ≤ 1) (o : ℕ) (eo : o ≡ noteOf t v) where
+      pub waits-silent : o ≡ 0 → true ≡ waitsAt n t v
+      unfolding waitsAt
+      waits-silent e = rw (← ep, ← em, ← eo) (simp tests)
+
+      module _ (h3 : o ≡ 0 → ⊥) where
+        pub waits-far : n < o → false ≡ waitsAt n t v
+        unfolding waitsAt
+        waits-far d = let g : n ≤ pred o = omega arith in rw (← ep, ← em, ← eo) (simp tests)
+
+        pub waits-noted : o ≤ n → (q r : ℕ) → q ≡ pred o → r ≡ rank t q → not (eqb r 0) ≡ waitsAt n t v
+        unfolding waitsAt
+        waits-noted d q r eq er =
+            let g : pred o < n = omega arith in
+            rw (placed-is t q r er, eq, ← ep, ← em, ← eo) (simp tests)
+
+-- One fragment.
+module _ (n : ℕ) (t : Tables) (v r : ℕ) (er : r ≡ rank t v) where
+  pub fits-loose : r ≡ 0 → (b : Bool) → b ≡ waitsAt n t v → b ≡ fragmentFits n t v
+  unfolding fragmentFits
+  fits-loose e b w = rw (placed-not t v r er e, w) (simp tests)
+
+  module _ (d : r ≡ 0 → ⊥) where
+    pub fits-fallen : false ≡ standsAt n t v → false ≡ fragmentFits n t v
+    unfolding fragmentFits
+    fits-fallen w = rw (placed-so t v r er d, ← w) (simp tests)
+
+    pub fits-placed : true ≡ standsAt n t v → (b : Bool) → b ≡ clearAt t v → b ≡ fragmentFits n t v
+    unfolding fragmentFits
+    fits-placed w b q = rw (placed-so t v r er d, ← w, q) (simp tests)
+
+-- Counting those placed.
+pub placed-none : (t : Tables) → 0 ≡ count (placed t) 0
+placed-none t = sym (count-zero (placed t))
+
+module _ (t : Tables) (v r m : ℕ) (er : r ≡ rank t v) (em : m ≡ count (placed t) v) where
+  pub placed-more : (r ≡ 0 → ⊥) → m + 1 ≡ count (placed t) (v + 1)
+  unfolding bit
+  placed-more d = rw (add-one v) (omega (arith, rw (placed-so t v r er d) at (count-suc (placed t) v)))
+
+  pub placed-same : r ≡ 0 → m ≡ count (placed t) (v + 1)
+  unfolding bit
+  placed-same e = rw (add-one v) (omega (arith, rw (placed-not t v r er e) at (count-suc (placed t) v)))
+
+-- The state.
+module _ (s : State) (m : ℕ) where
+  pub state-done : s .n ≤ m → false ≡ stateFits s m
+  unfolding stateFits
+  state-done p = simp tests
+
+  module _ (h1 : m < s .n) where
+    pub state-closed : m + 1 < s .passes → false ≡ stateFits s m
+    unfolding stateFits
+    state-closed p = let q : suc m < s .passes = omega arith in simp tests
+
+    module _ (h2 : s .passes ≤ m + 1) where
+      pub state-many : entriesMost < s .entries → false ≡ stateFits s m
+      unfolding stateFits
+      state-many p = let q : s .passes ≤ suc m = omega arith in simp tests
+
+      module _ (h3 : s .entries ≤ entriesMost) where
+        pub state-full : s .k * s .n < s .held → false ≡ stateFits s m
+        unfolding stateFits
+        state-full p = let q : s .passes ≤ suc m = omega arith in simp tests
+
+        pub state-fits : s .held ≤ s .k * s .n → not (s .crossed) ≡ stateFits s m
+        unfolding stateFits
+        state-fits p = let q : s .passes ≤ suc m = omega arith in simp tests
+
+-- A held link's ends.
+module _ (n : ℕ) (t : Tables) (a b : ℕ) where
+  pub link-turned : b ≤ a → false ≡ linkFits n t a b
+  unfolding linkFits
+  link-turned p = simp tests
+
+  module _ (h1 : a < b) where
+    pub link-far : n ≤ b → false ≡ linkFits n t a b
+    unfolding linkFits
+    link-far p = simp tests
+
+    module _ (h2 : b < n) (r : ℕ) (er : r ≡ rank t a) where
+      pub link-placed : (r ≡ 0 → ⊥) → false ≡ linkFits n t a b
+      unfolding linkFits
+      link-placed d = rw (placed-so t a r er d) (simp tests)
+
+      pub link-loose : r ≡ 0 → (q : ℕ) → q ≡ rank t b → eqb q 0 ≡ linkFits n t a b
+      unfolding linkFits
+      link-loose e q eq = rw (placed-not t a r er e, loose-is t b q eq) (simp tests)
+
+-- One link under two names.
+module _ (c d a b : ℕ) where
+  pub same-straight : c ≡ a → eqb d b ≡ between (c, d) a b
+  unfolding between
+  same-straight e = elim (ℕ-discrete d b) [
+    | yes q ↦ simp tests
+    | no q ↦ elim (ℕ-discrete c b) [
+      | yes z ↦ let w : d ≡ a → ⊥ = λ w. q (w ∙ sym e ∙ z) in simp tests
+      | no z ↦ simp tests
+    ]
+  ]
+
+  module _ (f : c ≡ a → ⊥) where
+    pub same-turned : c ≡ b → eqb d a ≡ between (c, d) a b
+    unfolding between
+    same-turned e = simp tests
+
+    pub same-not : (c ≡ b → ⊥) → false ≡ between (c, d) a b
+    unfolding between
+    same-not g = simp tests
+
+-- The links that are left to look at from word i on.
+abbrev pub left : List ℕ → ℕ → ℕ → List Link
+left h to i = map linkIn (take (to - i) (drop i h))
+
+pub left-whole : (h : List ℕ) (to : ℕ) → left h to 0 ≡ map linkIn (take to h)
+left-whole h to = let e : to - 0 ≡ to = omega arith in rw e
+
+pub left-none : (h : List ℕ) (to i : ℕ) → to ≤ i → left h to i ≡ []
+left-none h to i l = let e : to - i ≡ 0 = omega arith in rw e
+
+module _ (h : List ℕ) (to i : ℕ) (l : i < to) (b : to ≤ length h) (c d : ℕ) (ec : c ≡ linkIn (getD h i 0) .0) (ed : d ≡ linkIn (getD h i 0) .1) where
+  left-next : left h to i ≡ (c, d) ∷ left h to (i + 1)
+  left-next =
+      let q : to - i ≡ suc (to - suc i) = omega arith in
+      let pair : linkIn (getD h i 0) ≡ (c, d) = λ j. (sym ec j, sym ed j) in
+      rw (add-one, q, drop-cons h i 0 (omega arith), pair)
+
+  module _ (n : ℕ) (t : Tables) where
+    pub ends-more : true ≡ linkFits n t c d → endsFit n t (left h to (i + 1)) ≡ endsFit n t (left h to i)
+    unfolding endsFit linkFits
+    ends-more e = rw (left-next, ← e)
+
+    pub ends-off : false ≡ linkFits n t c d → false ≡ endsFit n t (left h to i)
+    unfolding endsFit linkFits
+    ends-off e = rw (left-next, ← e)
+
+  module _ (u v : ℕ) where
+    pub among-more : false ≡ between (c, d) u v → linked (left h to (i + 1)) u v ≡ linked (left h to i) u v
+    unfolding linked
+    among-more e = rw (left-next, ← e)
+
+    pub among-hit : true ≡ between (c, d) u v → true ≡ linked (left h to i) u v
+    unfolding linked
+    among-hit e = rw (left-next, ← e)
+
+  pub twice-more : false ≡ linked (left h to (i + 1)) c d → noneTwice (left h to (i + 1)) ≡ noneTwice (left h to i)
+  unfolding noneTwice
+  twice-more e = rw (left-next, ← e)
+
+  pub twice-hit : true ≡ linked (left h to (i + 1)) c d → false ≡ noneTwice (left h to i)
+  unfolding noneTwice
+  twice-hit e = rw (left-next, ← e)
+
+-- Nothing is left.
+module _ (h : List ℕ) (to i : ℕ) (l : to ≤ i) where
+  pub ends-all : (n : ℕ) (t : Tables) → true ≡ endsFit n t (left h to i)
+  unfolding endsFit
+  ends-all n t = rw (left-none h to i l)
+
+  pub among-none : (u v : ℕ) → false ≡ linked (left h to i) u v
+  unfolding linked
+  among-none u v = rw (left-none h to i l)
+
+  pub twice-none : true ≡ noneTwice (left h to i)
+  unfolding noneTwice
+  twice-none = rw (left-none h to i l)
+
+-- The quota of a piece, by the words at p.
+module _ (n k p : ℕ) (f : List ℕ) (h : p < n) where
+  -- A fragment that points to another is not the smallest member of its piece.
+  pub piece-other : (getD f (4 * n + p) 0 ≡ 0 → ⊥) → Tells n f true (λ held. pieceFits n k held p)
+  unfolding pieceFits asked member
+  piece-other d held g =
+      let u = pred (getD f (4 * n + p) 0) in
+      let e = g .next p u h (omega arith) in
+      let o = label-le n held (g .inside) u (omega (arith, g .pointing .down p h)) in
+      let z : getD (pieces n held) p 0 ≡ p → ⊥ = λ z. omega (arith, g .pointing .down p h) in
+      rw (ne-eqb (getD (pieces n held) p 0) p z)
+
+  pub piece-own : getD f (4 * n + p) 0 ≡ 0 → (x y : ℕ) → x ≡ getD f (5 * n + p) 0 → y ≡ getD f (6 * n + p) 0
+      → Tells n f (leb y (k * (x + 1) - 1)) (λ held. pieceFits n k held p)
+  unfolding pieceFits asked member
+  piece-own e x y ex ey held g =
+      let o = g .first p h e in
+      let sz : x + 1 ≡ sizeOf n (pieces n held) p = omega (arith, g .size p h o) in
+      let ln : y ≡ heldIn (pieces n held) held p = ey ∙ g .links p h o in
+      rw (eq-eqb (getD (pieces n held) p 0) p o, sz, ln)
+
+module _ (n k : ℕ) (f : List ℕ) where
+  -- Every piece below p keeps its quota.
+  abbrev pub Below : ℕ → Type 0
+  Below p = Tells n f true (λ held. every (pieceFits n k held) p)
+
+  pub quota-none : Below 0
+  quota-none held g = sym (every-none (pieceFits n k held))
+
+  pub quota-more : (p : ℕ) (b : Bool) → b ≡ true → Tells n f b (λ held. pieceFits n k held p) → Below p → Below (p + 1)
+  quota-more p b e q B held g = sym (every-more (pieceFits n k held) p (sym (B held g)) (sym (q held g) ∙ e))
+
+  pub quota-off : (p : ℕ) (b : Bool) → p < n → b ≡ false → Tells n f b (λ held. pieceFits n k held p) → Tells n f false (quotaFits n k)
+  unfolding quotaFits pieceFits
+  quota-off p b l e q held g = every-fails (pieceFits n k held) p n l (sym (q held g) ∙ e)
+
+  pub quota-all : (p : ℕ) → p ≡ n → Below p → Tells n f true (quotaFits n k)
+  unfolding quotaFits pieceFits
+  quota-all p e B held g = B held g ∙ ap (λ m. every (pieceFits n k held) m) e
+
+-- The held links.
+module _ (n k : ℕ) (t : Tables) (l : List Link) where
+  pub links-ends : false ≡ endsFit n t l → false ≡ linksFit n k t l
+  unfolding linksFit
+  links-ends e = rw (← e)
+
+  module _ (h1 : true ≡ endsFit n t l) where
+    pub links-twice : false ≡ noneTwice l → false ≡ linksFit n k t l
+    unfolding linksFit
+    links-twice e = rw (← h1, ← e)
+
+    pub links-quota : true ≡ noneTwice l → (b : Bool) → b ≡ quotaFits n k l → b ≡ linksFit n k t l
+    unfolding linksFit
+    links-quota e b q = rw (← h1, ← e) q
+
+-- Where their ends fit they can be gathered.
+pub links-gatherable : {n k count : ℕ} {f h : List ℕ} → Lookable n k count f h → true ≡ endsFit n (forestIn n f) (map linkIn (take count h)) → Gatherable n f h count
+links-gatherable {n} {k} {count} {f} {h} L e = record {
+  few-fragments = L .few-fragments;
+  long = L .long;
+  blank = L .blank;
+  few = omega (arith, L .few, mul-le-mul (L .room) (L .few-fragments));
+  there = L .there;
+  inside = λ u v x. let d = ends-known n (forestIn n f) (map linkIn (take count h)) (true-T (endsFit n (forestIn n f) (map linkIn (take count h))) (sym e)) u v x in (d .0, d .1);
+}

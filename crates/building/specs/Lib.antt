@@ -1,0 +1,5 @@
+pub mod Pieces
+pub mod Closing
+pub mod Telling
+pub mod Check
+pub mod Laws

@@ -1,0 +1,145 @@
+-- What stands in the two tables while the links of a block are told, and what the private functions of a take leave there. Definitions only.
+-- Assumes nothing.
+use Prim.Native.Nat.{ℕ, suc, _+_, _-_, _*_, _≤_, _<_, min, max}
+use mathlib.Core.Path.{_≡_}
+use mathlib.Core.Bool.{Bool, false, _||_, not}
+use mathlib.Core.List.{List, [], _∷_}
+use mathlib.Core.Logic.{_≢_}
+use lib.ListN.{length, getD, set, take, drop}
+use lib.Dec.{T, ltb, eqb}
+use Rattle.base.specs.Answer.{gives}
+use Rattle.lists.specs.List.{linksAt}
+use Rattle.rules.specs.Links.{Link}
+use Rattle.rules.specs.Tables.{Tables, noteOf}
+use Rattle.rules.specs.Building.{pieces, sizeOf, heldIn, better, buildLinks}
+use Rattle.rules.specs.Laws.Facts.{Underway, Loose}
+use Rattle.state.specs.Layout.{words, stored, wordOf, tablesIn, forestIn}
+use Rattle.state.specs.Test.{allZero}
+use Rattle.state.specs.Call.{fragmentsMost, roomMost}
+use Rattle.state.specs.declared.State.{State}
+use Rattle.state.specs.declared.Stage.the-variants.{Building}
+use Rattle.building.specs.Pieces.{Pointing, Gathered, Joinable, Joins}
+
+-- The tables of n fragments of which so many links are held, in Building.
+abbrev pub holds : ℕ → ℕ → State
+holds n count = record { n = n; k = 0; stage = Building; passes = 0; entries = 0; held = count; crossed = false }
+
+abbrev pub heldTables : ℕ → ℕ → List ℕ → List ℕ → Tables
+heldTables n count f h = tablesIn (holds n count) f h
+
+-- Between two links of a block: the tables of a pass that is underway, their pieces in scratch.
+pub record Telling (n k count : ℕ) (f h : List ℕ) : Type 0 where
+  pub few-fragments : n ≤ fragmentsMost
+  pub some-room : 0 < k
+  pub few-room : k ≤ roomMost
+  pub long : words * n ≤ length f
+  pub held-long : k * n ≤ length h
+  pub underway : Underway n k (heldTables n count f h)
+  pub gathered : Gathered n (heldTables n count f h .held) f
+  pub as-many : length (heldTables n count f h .held) ≡ count
+
+-- The ends of a link.
+pub record Ends (n a b : ℕ) : Type 0 where
+  pub first : a < n
+  pub second : b < n
+  pub differ : a ≢ b
+
+-- What is told leaves the tables t, their pieces in scratch and every word past the pieces and the held links.
+pub record Leaves (n k count : ℕ) (f h : List ℕ) (count′ : ℕ) (f′ h′ : List ℕ) (t : Tables) : Type 0 where
+  pub telling : Telling n k count′ f′ h′
+  pub tables : heldTables n count′ f′ h′ ≡ t
+  pub frag-length : length f′ ≡ length f
+  pub frag-past : drop (7 * n) f′ ≡ drop (7 * n) f
+  pub held-length : length h′ ≡ length h
+  pub held-past : drop count′ h′ ≡ drop count′ h
+  pub more : count ≤ count′
+
+-- The table after u noted p, where that is the better note.
+unfoldable pub noting : ℕ → ℕ → ℕ → List ℕ → List ℕ
+noting n u p f = set f (2 * n + u) (better (forestIn n f) (noteOf (forestIn n f) u) (suc p))
+
+pub record Notable (n u p : ℕ) (f : List ℕ) : Type 0 where
+  pub few-fragments : n ≤ fragmentsMost
+  pub long : words * n ≤ length f
+  pub first : u < n
+  pub second : p < n
+  pub note-in : noteOf (forestIn n f) u ≤ n
+
+-- Room for one more link in the piece of p, by the words of its size and its links.
+unfoldable pub roomAt : ℕ → ℕ → ℕ → List ℕ → Bool
+roomAt n k p f = ltb (getD f (6 * n + p) 0) (k * suc (getD f (5 * n + p) 0) - 1)
+
+pub record Sized (n k p : ℕ) (f : List ℕ) : Type 0 where
+  pub few-fragments : n ≤ fragmentsMost
+  pub some-room : 0 < k
+  pub few-room : k ≤ roomMost
+  pub long : words * n ≤ length f
+  pub in-range : p < n
+
+-- A link from the piece with smallest member p to b.
+pub record Asked (n k p b : ℕ) (f : List ℕ) : Type 0 where
+  pub sized : Sized n k p f
+  pub pointing : Pointing n f
+  pub second : b < n
+
+-- Whether it joins two pieces or finds room, whatever links stand gathered.
+abbrev pub MayHold : (n k p b : ℕ) (f : List ℕ) (r : Bool) → Type 0
+MayHold n k p b f r =
+    (held : List Link) → Gathered n held f → getD (pieces n held) p 0 ≡ p
+    → r ≡ (not (eqb p (getD (pieces n held) b 0)) || ltb (heldIn (pieces n held) held p) (k * sizeOf n (pieces n held) p - 1))
+
+-- A word for one more held link.
+pub record Holdable (n count a b : ℕ) (f h : List ℕ) : Type 0 where
+  pub few-fragments : n ≤ fragmentsMost
+  pub ends : Ends n a b
+  pub there : count < length h
+  pub joinable : Joinable n f (min a b) (max a b)
+
+-- The link is held, with the smaller end first, and joins the pieces in scratch.
+pub record Holds (n count a b : ℕ) (f h f′ h′ : List ℕ) : Type 0 where
+  pub word : h′ ≡ set h count (wordOf (min a b, max a b))
+  pub joins : Joins n (min a b) (max a b) f f′
+
+-- A link between two unplaced fragments may be told.
+pub record Between (n k count a b : ℕ) (f h : List ℕ) : Type 0 where
+  pub telling : Telling n k count f h
+  pub ends : Ends n a b
+  pub loose-first : Loose (heldTables n count f h) a
+  pub loose-second : Loose (heldTables n count f h) b
+
+-- From byte `at` on the block tells links, where so many entries came before.
+pub record Rest (n entries : ℕ) (block : List ℕ) (at : ℕ) : Type 0 where
+  pub links : List Link
+  pub are : linksAt n entries block at ≡ gives links
+
+-- The links of a block are told.
+abbrev pub Tells : (n k count entries : ℕ) (block f h : List ℕ) (count′ : ℕ) (f′ h′ : List ℕ) → Type 0
+Tells n k count entries block f h count′ f′ h′ =
+    (links : List Link) → linksAt n entries block 0 ≡ gives links → Leaves n k count f h count′ f′ h′ (buildLinks n k (heldTables n count f h) links)
+
+-- The tables of a pass that is underway, scratch 0.
+pub record Tellable (n k count : ℕ) (f h : List ℕ) : Type 0 where
+  pub few-fragments : n ≤ fragmentsMost
+  pub some-room : 0 < k
+  pub few-room : k ≤ roomMost
+  pub long : words * n ≤ length f
+  pub held-long : k * n ≤ length h
+  pub underway : Underway n k (heldTables n count f h)
+  pub as-many : length (heldTables n count f h .held) ≡ count
+  pub blank : T (allZero (take ((words - stored) * n) (drop (stored * n) f)))
+
+-- The tables t, scratch 0, and every word past the tables and the held links.
+pub record Settles (n k count : ℕ) (f h : List ℕ) (count′ : ℕ) (f′ h′ : List ℕ) (t : Tables) : Type 0 where
+  pub tables : heldTables n count′ f′ h′ ≡ t
+  pub blank : T (allZero (take ((words - stored) * n) (drop (stored * n) f′)))
+  pub frag-length : length f′ ≡ length f
+  pub frag-past : drop (words * n) f′ ≡ drop (words * n) f
+  pub held-length : length h′ ≡ length h
+  pub held-past : drop count′ h′ ≡ drop count′ h
+  pub more : count ≤ count′
+  pub room : count′ ≤ k * n
+  pub as-many : length (t .held) ≡ count′
+
+abbrev pub Told : (n k count entries : ℕ) (block f h : List ℕ) (count′ : ℕ) (f′ h′ : List ℕ) → Type 0
+Told n k count entries block f h count′ f′ h′ =
+    (links : List Link) → linksAt n entries block 0 ≡ gives links → Settles n k count f h count′ f′ h′ (buildLinks n k (heldTables n count f h) links)

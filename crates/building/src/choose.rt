@@ -1,0 +1,100 @@
+// What a close chooses for a piece: the best note of its members, its top, and whether it is lost. Labels stand in section 7.
+ghost use mathlib.Core.Path.{_≡_};
+ghost use Prim.Native.Nat.{_<_, _≤_};
+ghost use Rattle.rules.specs.Building.{better, noted, member, lost};
+ghost use Rattle.state.specs.Layout.{section, forestIn};
+ghost use Rattle.building.specs.Closing.{Wide, Noting, topBy, firstNoted};
+
+// Of two notes the better.
+pub(crate) fn better_note(frag: &[u32], n: usize, old: usize, new: usize) -> usize
+    requires { ⌜ Wide n (now frag) × (old ≤ n) × (new ≤ n) ⌝ }
+    ensures { λ r. ⌜ (r ≡ better (forestIn n (now (frag .entry))) old new) × (r ≤ n) ⌝ }
+{
+    if new == 0 {
+        return old;
+    }
+    if old == 0 {
+        return new;
+    }
+    let was = frag[n + (old - 1)];
+    let is = frag[n + (new - 1)];
+    if was < is {
+        return new;
+    }
+    if is < was {
+        return old;
+    }
+    if new < old {
+        return new;
+    }
+    old
+}
+
+// v is a member of the piece p.
+fn is_member(frag: &[u32], n: usize, p: usize, v: usize) -> bool
+    requires { ⌜ Wide n (now frag) × (v < n) ⌝ }
+    ensures { λ r. ⌜ r ≡ member (section n 7 (now (frag .entry))) p v ⌝ }
+{
+    frag[7 * n + v] as usize == p
+}
+
+// The best note of the members of the piece p; 0 where none is noted.
+pub(crate) fn best_note(frag: &[u32], n: usize, p: usize) -> usize
+    requires { ⌜ Noting n (now frag) ⌝ }
+    ensures { λ r. ⌜ (r ≡ noted (forestIn n (now (frag .entry))) (section n 7 (now (frag .entry))) p n) × (r ≤ n) ⌝ }
+{
+    let mut best = 0;
+    let mut v = 0;
+    while v < n {
+        if is_member(frag, n, p, v) {
+            best = better_note(frag, n, best, frag[2 * n + v] as usize);
+        }
+        v += 1;
+    }
+    best
+}
+
+// The smallest member of the piece p that has this note.
+fn first_noted(frag: &[u32], n: usize, p: usize, note: usize) -> usize
+    requires { ⌜ Wide n (now frag) ⌝ }
+    ensures { λ r. ⌜ r ≡ firstNoted n (forestIn n (now (frag .entry))) (section n 7 (now (frag .entry))) p note ⌝ }
+{
+    let mut v = 0;
+    while v < n {
+        if is_member(frag, n, p, v) {
+            if frag[2 * n + v] as usize == note {
+                return v;
+            }
+        }
+        v += 1;
+    }
+    v
+}
+
+// The top of the piece p, of which this is the best note.
+pub(crate) fn top_of(frag: &[u32], n: usize, p: usize, note: usize) -> usize
+    requires { ⌜ Wide n (now frag) ⌝ }
+    ensures { λ r. ⌜ r ≡ topBy n (forestIn n (now (frag .entry))) (section n 7 (now (frag .entry))) p note ⌝ }
+{
+    if note == 0 {
+        return p;
+    }
+    first_noted(frag, n, p, note)
+}
+
+// Some member of the piece p carries a lost mark.
+pub(crate) fn is_lost(frag: &[u32], n: usize, p: usize) -> bool
+    requires { ⌜ Wide n (now frag) ⌝ }
+    ensures { λ r. ⌜ r ≡ lost n (forestIn n (now (frag .entry))) (section n 7 (now (frag .entry))) p ⌝ }
+{
+    let mut v = 0;
+    while v < n {
+        if is_member(frag, n, p, v) {
+            if frag[3 * n + v] != 0 {
+                return true;
+            }
+        }
+        v += 1;
+    }
+    false
+}

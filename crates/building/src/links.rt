@@ -1,0 +1,139 @@
+// The test of the held links: their ends, none twice, and no piece over its quota.
+ghost use Prim.Native.Nat.{_-_, _<_, _≤_};
+ghost use mathlib.Core.List.{map};
+ghost use mathlib.Core.Path.{_≡_};
+ghost use lib.ListN.{length, take, drop};
+ghost use Rattle.rules.specs.Links.{between, linked};
+ghost use Rattle.state.specs.Layout.{forestIn, linkIn};
+ghost use Rattle.state.specs.Test.{endsFit, noneTwice, quotaFits};
+ghost use Rattle.state.specs.Laws.Tests.{Room};
+ghost use Rattle.building.specs.Pieces.{Pointing};
+ghost use Rattle.building.specs.Check.{linkFits, pieceFits, Tells, linksFit, Lookable, Readable};
+use crate::pieces::gather;
+use crate::tables::rank_at;
+use crate::tables::wide;
+use crate::words::high_end;
+use crate::words::low_end;
+use crate::words::wipe;
+
+// 'held links join different unplaced fragments'
+fn link_fits(frag: &[u32], n: usize, a: usize, b: usize) -> bool
+    requires { ⌜ Room n (now frag) ⌝ }
+    ensures { λ r. ⌜ r ≡ linkFits n (forestIn n (now (frag .entry))) a b ⌝ }
+{
+    if b <= a {
+        return false;
+    }
+    if n <= b {
+        return false;
+    }
+    if rank_at(frag, n, a) != 0 {
+        return false;
+    }
+    rank_at(frag, n, b) == 0
+}
+
+fn ends_fit(frag: &[u32], held: &[u32], n: usize, count: usize) -> bool
+    requires { ⌜ Room n (now frag) × (count ≤ length (now held)) ⌝ }
+    ensures { λ r. ⌜ r ≡ endsFit n (forestIn n (now (frag .entry))) (map linkIn (take count (now (held .entry)))) ⌝ }
+{
+    let mut i = 0;
+    while i < count {
+        let a = low_end(held, i);
+        let b = high_end(held, i);
+        if !link_fits(frag, n, a, b) {
+            return false;
+        }
+        i += 1;
+    }
+    true
+}
+
+// The links from c to d and from a to b are one.
+fn is_same(c: usize, d: usize, a: usize, b: usize) -> bool
+    ensures { λ r. ⌜ r ≡ between (c, d) a b ⌝ }
+{
+    if c == a {
+        return d == b;
+    }
+    if c == b {
+        return d == a;
+    }
+    false
+}
+
+// The link between a and b is among the held links from one place to another.
+pub(crate) fn is_among(held: &[u32], from: usize, to: usize, a: usize, b: usize) -> bool
+    requires { ⌜ (from ≤ to) × (to ≤ length (now held)) ⌝ }
+    ensures { λ r. ⌜ r ≡ linked (map linkIn (take (to - from) (drop from (now (held .entry))))) a b ⌝ }
+{
+    let mut i = from;
+    while i < to {
+        let c = low_end(held, i);
+        let d = high_end(held, i);
+        if is_same(c, d, a, b) {
+            return true;
+        }
+        i += 1;
+    }
+    false
+}
+
+// 'none twice': each link is looked for among those behind it.
+fn none_twice(held: &[u32], count: usize) -> bool
+    requires { ⌜ count ≤ length (now held) ⌝ }
+    ensures { λ r. ⌜ r ≡ noneTwice (map linkIn (take count (now (held .entry)))) ⌝ }
+{
+    let mut i = 0;
+    while i < count {
+        let a = low_end(held, i);
+        let b = high_end(held, i);
+        if is_among(held, i + 1, count, a, b) {
+            return false;
+        }
+        i += 1;
+    }
+    true
+}
+
+// 'at most k·s - 1 in a piece of s', where p is the smallest member of its piece.
+fn piece_fits(frag: &[u32], n: usize, k: usize, p: usize) -> bool
+    requires { ⌜ Readable n k p (now frag) ⌝ }
+    ensures { λ r. ⌜ Tells n (now (frag .entry)) r (λ held. pieceFits n k held p) ⌝ }
+{
+    if frag[4 * n + p] != 0 {
+        return true;
+    }
+    let size = wide(frag[5 * n + p]) + 1;
+    wide(frag[6 * n + p]) <= k * size - 1
+}
+
+fn quota_fits(frag: &[u32], n: usize, k: usize) -> bool
+    requires { ⌜ Pointing n (now frag) × (0 < k) × (k ≤ 64) ⌝ }
+    ensures { λ r. ⌜ Tells n (now (frag .entry)) r (quotaFits n k) ⌝ }
+{
+    let mut p = 0;
+    while p < n {
+        if !piece_fits(frag, n, k, p) {
+            return false;
+        }
+        p += 1;
+    }
+    true
+}
+
+pub(crate) fn links_fit(frag: &mut [u32], held: &[u32], n: usize, k: usize, count: usize) -> bool
+    requires { ⌜ Lookable n k count (now frag) (now held) ⌝ }
+    ensures { λ r. ⌜ (r ≡ linksFit n k (forestIn n (now (frag .entry))) (map linkIn (take count (now (held .entry))))) × (now (frag .exit) ≡ now (frag .entry)) ⌝ }
+{
+    if !ends_fit(frag, held, n, count) {
+        return false;
+    }
+    if !none_twice(held, count) {
+        return false;
+    }
+    gather(frag, held, n, count);
+    let fits = quota_fits(frag, n, k);
+    wipe(frag, 4 * n, 16 * n);
+    fits
+}

@@ -1,0 +1,43 @@
+// Take in Building.
+ghost use mathlib.Core.Path.{_≡_};
+ghost use Rattle.state.specs.Test.{isBuilding};
+ghost use Rattle.state.specs.Take.{takeIn};
+ghost use Rattle.state.specs.Told.{takenTold};
+use lists::Scanned;
+use numbers::Refusal;
+use state::State;
+use state::Stage;
+use state::Taken;
+use crate::head::head;
+use crate::tables::wide;
+use crate::tell::tell_block;
+
+// The links of a block are told by the building rules. The block is scanned first, so that nothing of a refused one is kept.
+pub fn take(s: State, frag: &mut [u32], held: &mut [u32], block: &[u8]) -> Taken
+    ensures { λ r. ⌜ takenTold s r (now (frag .exit)) (now (held .exit)) ≡ takeIn isBuilding s (now (frag .entry)) (now (held .entry)) (now (block .entry)) ⌝ }
+{
+    let refusal = head(s, frag, held);
+    if refusal != 0 {
+        return Taken::Refused(Refusal {
+            number: refusal,
+            place: 0,
+        });
+    }
+    let n = s.n;
+    let entries = s.entries as u32;
+    match lists::scan(n as u32, entries, block) {
+        Scanned::Links(links) => {
+            let count = tell_block(frag, held, n, s.k, s.held, entries, block);
+            Taken::On(State {
+                n: n,
+                k: s.k,
+                stage: Stage::Building,
+                passes: s.passes,
+                entries: s.entries + wide(links),
+                held: count,
+                crossed: false,
+            })
+        }
+        Scanned::Refused(bad) => Taken::Refused(bad),
+    }
+}

@@ -1,0 +1,73 @@
+// The building rules B2 and B3: what the links of a block leave in the two tables.
+ghost use mathlib.Core.Path.{_≡_};
+ghost use Rattle.rules.specs.Building.{buildLink};
+ghost use Rattle.building.specs.Telling.{heldTables, Leaves, Ends, Telling, Notable, noting, Rest, Tells, Tellable, Told};
+use lists::Link;
+use crate::choose::better_note;
+use crate::hold::hold_link;
+use crate::pieces::gather;
+use crate::tables::{rank_at, note_at};
+use crate::words::wipe;
+
+// A link from unplaced u to placed p: the better note stays.
+fn note_link(frag: &mut [u32], n: usize, u: usize, p: usize)
+    requires { ⌜ Notable n u p (now frag) ⌝ }
+    ensures { λ r. ⌜ now (frag .exit) ≡ noting n u p (now (frag .entry)) ⌝ }
+{
+    let old = note_at(frag, n, u);
+    let note = better_note(frag, n, old, p + 1);
+    frag[2 * n + u] = note as u32;
+}
+
+// One link, by which of its ends are placed. Returns how many links are held now.
+fn build_link(frag: &mut [u32], held: &mut [u32], n: usize, k: usize, count: usize, a: usize, b: usize) -> usize
+    requires { ⌜ Telling n k count (now frag) (now held) × Ends n a b ⌝ }
+    ensures { λ r. ⌜ Leaves n k count (now (frag .entry)) (now (held .entry)) r (now (frag .exit)) (now (held .exit)) (buildLink n k (heldTables n count (now (frag .entry)) (now (held .entry))) (a, b)) ⌝ }
+{
+    if rank_at(frag, n, a) != 0 {
+        if rank_at(frag, n, b) != 0 {
+            return count;
+        }
+        note_link(frag, n, b, a);
+        return count;
+    }
+    if rank_at(frag, n, b) != 0 {
+        note_link(frag, n, a, b);
+        return count;
+    }
+    hold_link(frag, held, n, k, count, a, b)
+}
+
+// The links of a block that was scanned, one after another. Returns how many links are held now.
+fn tell_links(frag: &mut [u32], held: &mut [u32], n: usize, k: usize, first: usize, entries: u32, block: &[u8]) -> usize
+    requires { ⌜ Telling n k first (now frag) (now held) × Rest n entries (now block) 0 ⌝ }
+    ensures { λ r. ⌜ Tells n k first entries (now (block .entry)) (now (frag .entry)) (now (held .entry)) r (now (frag .exit)) (now (held .exit)) ⌝ }
+{
+    let mut count = first;
+    let mut told = entries;
+    let mut at: usize = 0;
+    while at < block.len() {
+        match lists::link_at(n as u32, told, block, at) {
+            Link::Ends(a, b, next) => {
+                count = build_link(frag, held, n, k, count, a as usize, b as usize);
+                told += 1;
+                at = next;
+            }
+            Link::Refused(_) => {
+                return count;
+            }
+        }
+    }
+    count
+}
+
+// The links of a block that was scanned, with their pieces in scratch meanwhile. Returns how many links are held now.
+pub(crate) fn tell_block(frag: &mut [u32], held: &mut [u32], n: usize, k: usize, count: usize, entries: u32, block: &[u8]) -> usize
+    requires { ⌜ Tellable n k count (now frag) (now held) × Rest n entries (now block) 0 ⌝ }
+    ensures { λ r. ⌜ Told n k count entries (now (block .entry)) (now (frag .entry)) (now (held .entry)) r (now (frag .exit)) (now (held .exit)) ⌝ }
+{
+    gather(frag, held, n, count);
+    let now_held = tell_links(frag, held, n, k, count, entries, block);
+    wipe(frag, 4 * n, 16 * n);
+    now_held
+}

@@ -1,0 +1,60 @@
+use native.Mathlib.Decide.{ℕ-discrete}
+-- `reading::count::smallest` meets its contract: no fragment before u is in the tree.
+-- Assumes nothing.
+use Rattle.state.specs.Layout.{forestIn}
+use Rattle.rules.specs.Reading.{rootOf}
+use borrow.Author.Count.{below-more}
+use borrow.Author.Needs.{needs}
+use Prim.Native.Nat.{ℕ, _≤_, _<_, _-_}
+use native.Mathlib.Omega.{arith}
+use mathlib.Core.Path.{_≡_, sym, ap, _∙_}
+use Rattle.reading.specs.Laws.Count.{piece-found}
+use Rattle.reading.proofs.count.smallest.Statement.{statement}
+use Rattle.reading.proofs.count.smallest.Tie as tie
+use Rattle.reading.proofs.count.smallest.Reads as reads
+use Rattle.reading.proofs.count.smallest.Lts as lts
+use Rattle.reading.proofs.climb.root.Reads as root-reads
+
+abbrev Inv-loop : tie.InvT-loop
+Inv-loop frag n v top u₀ u = (u ≤ v) × (top ≡ rootOf (forestIn n frag) v) × ((j : ℕ) → j < u → rootOf (forestIn n frag) j ≡ rootOf (forestIn n frag) v → ⊥)
+
+abbrev μ-loop : tie.MeasureT-loop
+μ-loop frag n v top u₀ u = v - u
+
+-- v is not passed before it is found.
+not-yet : (c : tie.Then1 Inv-loop μ-loop) → c .before .before .loop .u < c .before .before .before .before .before .args .v
+not-yet c =
+    let l = c .before .before .loop in
+    let v = c .before .before .before .before .before .args .v in
+    elim (ℕ-discrete (l .u) v) [
+      | yes e ↦ absurd (c .if1 .taken (c .before .root2 .ensures ∙ ap (rootOf _) e ∙ sym (l .inv .1)))
+      | no d ↦ omega arith
+    ]
+
+-- src/count.rt:22:5
+loop-less : tie.Need-loop-less Inv-loop μ-loop
+loop-less c = omega (arith, not-yet c)
+
+-- src/count.rt:22:5
+loop-again : tie.Need-loop-again Inv-loop μ-loop
+loop-again c = let l = c .before .before .loop in
+    (omega (arith, not-yet c), l .inv .1, below-more _ _ (l .inv .2) (λ e. c .if1 .taken (c .before .root2 .ensures ∙ e ∙ sym (l .inv .1))))
+
+-- src/count.rt:16:1
+returns : tie.Need-returns Inv-loop μ-loop
+returns c = let l = c .before .before .loop in
+    piece-found _ _ _ _ (omega arith) (sym (c .before .root2 .ensures) ∙ c .if1 .left ∙ l .inv .1) (l .inv .2)
+
+pub smallest-spec : {M : Type 1} → statement M
+smallest-spec =
+    tie.close
+    (tie.spec
+    Inv-loop
+    μ-loop
+    (λ c κs. search needs)
+    (λ c. search needs)
+    (λ c κs. search needs)
+    (λ c. search needs)
+    loop-less
+    loop-again
+    returns)

@@ -1,0 +1,93 @@
+-- What the head of a call gives to the private functions, and the answers of the questions that search the forest.
+-- Assumes nothing.
+use Prim.Native.Nat.{ℕ, _*_, _≤_, _<_}
+use mathlib.Core.Path.{_≡_, refl, sym, ap, _∙_}
+use mathlib.Core.Bool.{Bool, true, false}
+use mathlib.Core.List.{List}
+use native.Mathlib.Omega.{arith}
+use lib.ListN.{getD, take, drop, getD-replicate, length-take, length-drop}
+use lib.Seq.{getD-take, getD-drop}
+use Rattle.base.specs.Pick.{tests}
+use Rattle.base.specs.Truth.{false-T}
+use Rattle.base.specs.Answer.{gives, refuses}
+use Rattle.rules.specs.Tables.{parentOf, rank, noteOf, placed, par, lev}
+use Rattle.rules.specs.Reading.{above, lowest, reach, childOf, soleBelow, sole, cut, rootOf, piece}
+use Rattle.rules.specs.Laws.Tables.{SameForest, same-placed, standing-same}
+use Rattle.state.specs.Layout.{stored, tablesIn, forestIn}
+use Rattle.state.specs.Test.{isBuilding, isRead}
+use Rattle.state.specs.Call.{headRefusal}
+use Rattle.state.specs.Ask.{askTwo}
+use Rattle.state.specs.Laws.Lists.{all-zeros}
+use Rattle.state.specs.declared.State.{State}
+use Rattle.state.specs.declared.Stage.{Stage}
+use Rattle.state.specs.declared.Stage.the-variants.{Building, Built, Reading, Read}
+use Rattle.reading.specs.Whole.{Whole}
+use Rattle.reading.specs.Cut.{Unmarked}
+use Rattle.reading.specs.Laws.Head.{Passed}
+
+-- Read is not Building.
+pub read-settled : (g : Stage) → isRead g ≡ true → isBuilding g ≡ false
+read-settled Building e = sym e
+read-settled Built e = refl
+read-settled Reading e = refl
+read-settled Read e = refl
+
+-- What is known of the fragment table once the head has passed.
+module _ {b : Bool} {s : State} {f h : List ℕ} (p : Passed b s f h) where
+  pub passed-whole : isBuilding (s .stage) ≡ false → Whole (s .n) f
+  unfolding tablesIn
+  passed-whole e =
+      let a = p .found .agrees in
+      let same : SameForest (forestIn (s .n) f) (tablesIn s f h) = record { same-parent = refl; same-level = refl } in
+      record {
+        few = p .bounds .fragments;
+        long = p .bounds .frag-long;
+        standing = standing-same same (a .standing .long-note) (a .standing .long-mark) (a .standing);
+        all = λ v l. rw (same-placed same) (a .all-placed (false-T (isBuilding (s .stage)) e) v l);
+      }
+
+  pub passed-unmarked : Unmarked (s .n) f
+  passed-unmarked c l =
+      let n = s .n in
+      let long = p .bounds .frag-long in
+      let z = all-zeros (take (12 * n) (drop (stored * n) f)) (12 * n) (simp (length-take, length-drop) (omega arith)) (p .found .scratch) in
+      sym (getD-drop (stored * n) f c 0) ∙ sym (getD-take (12 * n) (drop (stored * n) f) c 0 (omega arith)) ∙ ap (λ (x : List ℕ). getD x c 0) z ∙ getD-replicate (12 * n) c 0 0 (omega arith)
+
+-- The questions are asked of the fragment table alone.
+module _ (s : State) (f h : List ℕ) where
+  pub same-piece : (v : ℕ) → piece (s .n) (forestIn (s .n) f) v ≡ piece (s .n) (tablesIn s f h) v
+  unfolding piece rootOf par lev placed rank parentOf tablesIn
+  same-piece v = refl
+
+  pub same-sole : (a b : ℕ) → sole (s .n) (forestIn (s .n) f) a b ≡ sole (s .n) (tablesIn s f h) a b
+  unfolding sole soleBelow reach above lowest childOf par lev placed rank parentOf noteOf tablesIn
+  same-sole a b = refl
+
+  pub same-cut : (v : ℕ) → cut (s .n) (forestIn (s .n) f) v ≡ cut (s .n) (tablesIn s f h) v
+  unfolding cut reach above lowest childOf par lev placed rank parentOf noteOf tablesIn
+  same-cut v = refl
+
+-- The answers of a question about two fragments, r being the head's refusal.
+module _ {A : Type 0} (allowed : Stage → Bool) (s : State) (f h : List ℕ) (r : ℕ) (e : r ≡ headRefusal allowed s f h) (x : A) (a b : ℕ) where
+  pub two-refused : (r ≡ 0 → ⊥) → refuses r 0 ≡ askTwo allowed s f h a b x
+  unfolding askTwo
+  two-refused d = rw (← e) (simp tests)
+
+  module _ (z : r ≡ 0) where
+    pub two-first : s .n ≤ a → refuses 4 0 ≡ askTwo allowed s f h a b x
+    unfolding askTwo
+    two-first l = rw (← e) (simp tests)
+
+    module _ (k : a < s .n) where
+      pub two-second : s .n ≤ b → refuses 4 0 ≡ askTwo allowed s f h a b x
+      unfolding askTwo
+      two-second l = rw (← e) (simp tests)
+
+      module _ (l : b < s .n) where
+        pub two-same : a ≡ b → refuses 5 0 ≡ askTwo allowed s f h a b x
+        unfolding askTwo
+        two-same q = rw (← e) (simp tests)
+
+        pub two-answer : (a ≡ b → ⊥) → gives x ≡ askTwo allowed s f h a b x
+        unfolding askTwo
+        two-answer q = rw (← e) (simp tests)

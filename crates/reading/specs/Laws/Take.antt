@@ -1,0 +1,123 @@
+-- The answers of take in Reading.
+-- Assumes nothing.
+use Prim.Native.Nat.{ℕ, _+_, _≤_}
+use mathlib.Core.Path.{_≡_, refl, sym, ap, _∙_}
+use mathlib.Core.Bool.{Bool, false}
+use mathlib.Core.List.{List, map}
+use mathlib.Core.Logic.{inl, inr}
+use native.Mathlib.Omega.{arith}
+use lib.ListN.{length, take}
+use Rattle.base.specs.Pick.{pick-false}
+use Rattle.base.specs.Truth.{false-T}
+use Rattle.base.specs.Answer.{Answer, gives, refuses}
+use Rattle.rules.specs.Links.{Link}
+use Rattle.rules.specs.Tables.{Tables}
+use Rattle.rules.specs.Reading.{readLinks}
+use Rattle.lists.specs.List.{andThen, blockLinks, scanBlock}
+use Rattle.lists.specs.Link.{andThen-gives, answered}
+use Rattle.lists.specs.Laws.{accepted-count}
+use Rattle.state.specs.Layout.{linkIn, tablesIn, fragOf, heldOf}
+use Rattle.state.specs.Test.{isBuilding, isReading}
+use Rattle.state.specs.Call.{headRefusal, leaves, moved}
+use Rattle.state.specs.Take.{tell, taken, takeIn}
+use Rattle.state.specs.Told.{takenTold}
+use Rattle.state.specs.Laws.Told.{headed-refused, headed-passed}
+use Rattle.state.specs.Laws.Lay.{frag-kept, held-laid}
+use Rattle.state.specs.declared.State.{State}
+use Rattle.state.specs.declared.Taken.the-variants.{On, Refused as Untaken}
+use Rattle.reading.specs.Tell.{crossedIn, Reads, Given, linksOf}
+use Rattle.reading.specs.Laws.Head.{Passed}
+use Rattle.reading.specs.Laws.Pass.{reading-settled}
+
+-- What the scan of a block says of its links.
+pub record Scanned (n entries : ℕ) (block : List ℕ) (count : ℕ) : Type 0 where
+  pub given : Given n entries block
+  pub counted : count ≡ length (given .links)
+
+pub scanned : (n entries : ℕ) (block : List ℕ) (count : ℕ) → gives count ≡ scanBlock n entries block → Scanned n entries block count
+unfolding scanBlock
+scanned n entries block count e =
+    let (ls, p, q) = andThen-gives (blockLinks n entries block) _ count (sym e) in
+    let z : length ls ≡ count = cc in
+    record { given = record { links = ls; are = p }; counted = sym z }
+
+pub scanned-few : {n entries : ℕ} {block : List ℕ} {count : ℕ} → Scanned n entries block count → count ≤ 16777215
+scanned-few {n} {entries} {block} s = omega (arith, s .counted, accepted-count n entries block (s .given .links) (s .given .are))
+
+pub scan-refused : (n entries : ℕ) (block : List ℕ) (number place : ℕ) → refuses number place ≡ scanBlock n entries block → blockLinks n entries block ≡ refuses number place
+unfolding scanBlock andThen
+scan-refused n entries block number place e = elim (answered (blockLinks n entries block)) [
+  | inl (ls, p) ↦ let q : _≡_ {A = Answer ℕ} (refuses number place) (gives (length ls)) = (rw p at e) in let z : _≡_ {A = ℕ} 0 1 = cc in absurd (omega arith)
+  | inr (a, b, p) ↦ let q : _≡_ {A = Answer ℕ} (refuses number place) (refuses a b) = (rw p at e) in let x : number ≡ a = cc in let y : place ≡ b = cc in cc
+]
+
+-- The state after a take, from what reading the links says of the pass.
+abbrev pub after : State → Bool → ℕ → State
+after s crossed entries = record { n = s .n; k = s .k; stage = s .stage; passes = s .passes; entries = entries; held = s .held; crossed = crossed }
+
+module _ (s : State) (f h block : List ℕ) (r : ℕ) (e : r ≡ headRefusal isReading s f h) where
+  pub take-refused : (r ≡ 0 → ⊥) → takenTold s (Untaken (record { number = r; place = 0 })) f h ≡ takeIn isReading s f h block
+  unfolding takeIn
+  take-refused d = headed-refused isReading s f h _ r e d
+
+  module _ (z : r ≡ 0) where
+    pub take-bad : (number place : ℕ) → blockLinks (s .n) (s .entries) block ≡ refuses number place
+        → takenTold s (Untaken (record { number = number; place = place })) f h ≡ takeIn isReading s f h block
+    unfolding takeIn taken
+    take-bad number place q = sym (ap (taken s f h) q) ∙ headed-passed isReading s f h _ r e z
+
+    module _ {b : Bool} (p : Passed b s f h) (eb : b ≡ isReading (s .stage)) (crossed : Bool) (f′ : List ℕ) (entries count : ℕ) (sc : Scanned (s .n) (s .entries) block count)
+        (o : Reads (s .n) (s .crossed) f crossed f′ (linksOf (blockLinks (s .n) (s .entries) block))) (ec : entries ≡ s .entries + count) where
+      abbrev links : List Link
+      links = sc .given .links
+
+      q : blockLinks (s .n) (s .entries) block ≡ gives links
+      q = sc .given .are
+
+      g : Reads (s .n) (s .crossed) f crossed f′ links
+      unfolding linksOf
+      g = rw q at o
+
+      c : entries ≡ s .entries + length links
+      c = omega (arith, sc .counted)
+
+      settled : isBuilding (s .stage) ≡ false
+      settled = reading-settled (s .stage) (sym eb ∙ p .may)
+
+      none : s .held ≡ 0
+      none = p .found .agrees .none-held (false-T (isBuilding (s .stage)) settled)
+
+      no-links : (s′ : State) (g′ : List ℕ) → s′ .n ≡ s .n → s′ .held ≡ 0 → tablesIn s′ g′ h ≡ crossedIn (s .n) (s′ .crossed) g′
+      unfolding tablesIn
+      no-links s′ g′ en eh = rw (en, eh)
+
+      told : tablesIn (after s crossed entries) f′ h ≡ readLinks (tablesIn s f h) links
+      told = no-links (after s crossed entries) f′ refl none ∙ g .tables ∙ ap (λ (t : Tables). readLinks t links) (sym (no-links s f refl none))
+
+      told-is : tell s (tablesIn s f h) links ≡ tablesIn (after s crossed entries) f′ h
+      unfolding tell
+      told-is = rw (settled, pick-false) (sym told)
+
+      frag-left : f′ ≡ fragOf (s .n) (tablesIn (after s crossed entries) f′ h) f
+      frag-left = frag-kept (after s crossed entries) f f′ h _ refl (omega (arith, p .bounds .frag-long, g .kept .long)) (p .found .scratch) (g .kept .rest)
+
+      held-left : h ≡ heldOf (s .n) (s .k) (tablesIn (after s crossed entries) f′ h) h
+      held-left = held-laid (after s crossed entries) f′ h h _ refl (p .found .agrees .held-room) (p .bounds .held-long) (p .found .unused) refl
+
+      left : takenTold s (On (after s crossed entries)) f′ h
+          ≡ leaves tt (moved (s .stage) (s .passes) (s .entries + length links) (tablesIn (after s crossed entries) f′ h) s) (tablesIn (after s crossed entries) f′ h) f h
+      unfolding leaves moved tablesIn
+      left =
+          let m : s .held ≡ length (map linkIn (take (s .held) h)) = rw none in
+          λ i. record {
+            answer = gives tt;
+            state = record { n = s .n; k = s .k; stage = s .stage; passes = s .passes; entries = c i; held = m i; crossed = crossed };
+            frag = frag-left i;
+            held = held-left i;
+          }
+
+      pub take-on : takenTold s (On (after s crossed entries)) f′ h ≡ takeIn isReading s f h block
+      unfolding takeIn taken
+      take-on =
+          left ∙ ap (λ (t : Tables). leaves tt (moved (s .stage) (s .passes) (s .entries + length links) t s) t f h) (sym told-is)
+          ∙ sym (ap (taken s f h) q) ∙ headed-passed isReading s f h _ r e z

@@ -1,0 +1,162 @@
+-- Laws of hearing and reading links in the words of the fragment table.
+-- Assumes nothing.
+use Prim.Native.Nat.{ℕ, _+_, _-_, _*_, _≤_, _<_, max}
+use mathlib.Core.Path.{_≡_, refl, sym, ap, _∙_}
+use mathlib.Core.Bool.{Bool, true, false, _||_, not}
+use mathlib.Core.List.{List, [], _∷_}
+use mathlib.Core.Logic.{inl, inr}
+use native.Mathlib.Omega.{arith}
+use borrow.Author.Tests.{eq-eqb, ne-eqb}
+use lib.ListN.{length, getD, set, length-set}
+use lib.Seq.{take-set-le, drop-set-lt}
+use Rattle.base.specs.Pick.{pick-true, pick-false}
+use Rattle.base.specs.Answer.{gives, refuses}
+use Rattle.rules.specs.Links.{Link}
+use Rattle.rules.specs.Tables.{par, lev, putCrossed}
+use Rattle.rules.specs.Reading.{above, hear, readLink, readLinks}
+use Rattle.rules.specs.Laws.Tables.{SameForest, same-par, same-lev, same-placed, standing-same}
+use Rattle.state.specs.Layout.{stored, tablesIn, forestIn}
+use Rattle.state.specs.Laws.Layout.{section-same, section-length, note-word, store-note, store-mark, store-crossed}
+use Rattle.reading.specs.Whole.{Whole}
+use Rattle.lists.specs.List.{linksAt, blockLinks, readLink as linkAt}
+use Rattle.lists.specs.Link.{link-accepted}
+use Rattle.lists.specs.Block.{walked, links-stop}
+use Rattle.reading.specs.Tell.{passing, crossedIn, Kept, Leaves, Reads, Given, linksOf}
+use Rattle.reading.specs.Laws.Climb.{word-lev}
+
+pub kept-refl : (n : ℕ) (f : List ℕ) → Kept n f f
+kept-refl n f = record { front = refl; rest = refl; long = refl }
+
+pub kept-trans : {n : ℕ} {f g h : List ℕ} → Kept n f g → Kept n g h → Kept n f h
+kept-trans a b = record { front = b .front ∙ a .front; rest = b .rest ∙ a .rest; long = b .long ∙ a .long }
+
+-- A store among notes and marks.
+pub kept-set : (n : ℕ) (f : List ℕ) (i x : ℕ) → 2 * n ≤ i → i < stored * n → Kept n f (set f i x)
+kept-set n f i x h g = record {
+  front = take-set-le (2 * n) f i x h;
+  rest = drop-set-lt (stored * n) f i x g;
+  long = length-set f i x;
+}
+
+-- The forest is the same.
+pub kept-forest : {n : ℕ} {f g : List ℕ} → Kept n f g → SameForest (forestIn n g) (forestIn n f)
+unfolding tablesIn
+kept-forest {n} {f} {g} k = record {
+  same-parent = section-same n f 0 g (2 * n) (omega arith) (k .front);
+  same-level = section-same n f 1 g (2 * n) (omega arith) (k .front);
+}
+
+pub kept-whole : {n : ℕ} {f g : List ℕ} → Whole n f → Kept n f g → Whole n g
+unfolding tablesIn
+kept-whole {n} {f} {g} w k =
+    let e = kept-forest k in
+    record {
+      few = w .few;
+      long = omega arith;
+      standing = standing-same e (section-length n g 2 (omega arith)) (section-length n g 3 (omega arith)) (w .standing);
+      all = λ v h. rw (same-placed e) (w .all v h);
+    }
+
+-- A false mark is no part of the forest.
+crossed-forest : (n : ℕ) (c : Bool) (f : List ℕ) → SameForest (crossedIn n c f) (forestIn n f)
+unfolding tablesIn
+crossed-forest n c f = record { same-parent = refl; same-level = refl }
+
+crossed-above : (n : ℕ) (c : Bool) (f : List ℕ) (a b : ℕ) → above (crossedIn n c f) a b ≡ above (forestIn n f) a b
+unfolding above
+crossed-above n c f a b = rw (same-par (crossed-forest n c f), same-lev (crossed-forest n c f))
+
+-- What v hears of a link to w, by a store of its mark or of its note.
+module _ {n : ℕ} {f : List ℕ} (w : Whole n f) (v : ℕ) (hv : v < n) (u : ℕ) where
+  pub hear-mark : par (forestIn n f) v ≡ u → Leaves n f (set f (3 * n + v) 1) (hear v u)
+  unfolding hear
+  hear-mark e = record {
+    kept = kept-set n f (3 * n + v) 1 (omega arith) (omega arith);
+    tables = λ c. store-mark (passing n c) f [] v hv
+        ∙ sym (rw (same-par (crossed-forest n c f), eq-eqb (par (forestIn n f) v) u e, pick-true));
+  }
+
+  pub hear-note : u < n → (p : ℕ) → p ≡ par (forestIn n f) v → (p ≡ u → ⊥) → (x : ℕ) → x ≡ max (getD f (2 * n + v) 0) (getD f (n + v) 0 - getD f (n + u) 0)
+      → Leaves n f (set f (2 * n + v) x) (hear v u)
+  unfolding hear
+  hear-note hu p e d x q =
+      let ep : (par (forestIn n f) v ≡ u → ⊥) = λ z. d (e ∙ z) in
+      let l : lev (forestIn n f) v - lev (forestIn n f) u ≡ getD f (n + v) 0 - getD f (n + u) 0 = omega (arith, word-lev w v hv, word-lev w u hu) in
+      record {
+        kept = kept-set n f (2 * n + v) x (omega arith) (omega arith);
+        tables = λ c. store-note (passing n c) f [] v x hv
+            ∙ sym (rw (same-par (crossed-forest n c f), ne-eqb (par (forestIn n f) v) u ep, pick-false, same-lev (crossed-forest n c f), ← note-word (passing n c) f [] v hv, l, ← q));
+      }
+
+flip : (x y : Bool) → not x ≡ y → x ≡ not y
+flip true y e = rw (← e)
+flip false y e = rw (← e)
+
+pub joined-first : (x y : Bool) → x ≡ true → false ≡ not (x || y)
+joined-first x y e = rw e
+
+pub joined-second : (x y z : Bool) → x ≡ false → z ≡ y → not z ≡ not (x || y)
+joined-second x y z e g = rw (e, g)
+
+-- One link is read: both ends hear of it, and the pass is false where neither is above the other.
+module _ {n : ℕ} {f g h : List ℕ} (a b : ℕ) (one : Leaves n f g (hear a b)) (two : Leaves n g h (hear b a)) (c : Bool) where
+  both : crossedIn n c h ≡ hear b a (hear a b (crossedIn n c f))
+  both = two .tables c ∙ ap (hear b a) (one .tables c)
+
+  pub read-apart : (x : Bool) → x ≡ not (above (forestIn n f) a b || above (forestIn n f) b a) → x ≡ true → Reads n c f true h ((a, b) ∷ [])
+  unfolding readLinks readLink
+  read-apart x e q = record {
+    kept = kept-trans (one .kept) (two .kept);
+    tables = store-crossed (passing n c) (passing n true) h [] refl true refl refl ∙ ap (putCrossed true) both
+        ∙ sym (rw (crossed-above n c f a b, crossed-above n c f b a, flip (above (forestIn n f) a b || above (forestIn n f) b a) true (sym e ∙ q), pick-false));
+  }
+
+  pub read-joined : (x : Bool) → x ≡ not (above (forestIn n f) a b || above (forestIn n f) b a) → x ≡ false → Reads n c f c h ((a, b) ∷ [])
+  unfolding readLinks readLink
+  read-joined x e q = record {
+    kept = kept-trans (one .kept) (two .kept);
+    tables = both ∙ sym (rw (crossed-above n c f a b, crossed-above n c f b a, flip (above (forestIn n f) a b || above (forestIn n f) b a) false (sym e ∙ q), pick-true));
+  }
+
+-- Reading on, link by link: what is left gives the whole.
+pub record Telling (n entries : ℕ) (block : List ℕ) (crossed₀ : Bool) (f₀ : List ℕ) (told at : ℕ) (crossed : Bool) (f : List ℕ) : Type 0 where
+  pub kept : Kept n f₀ f
+  pub links : List Link
+  pub are : linksAt n told block at ≡ gives links
+  pub left : readLinks (crossedIn n crossed f) links ≡ readLinks (crossedIn n crossed₀ f₀) (linksOf (blockLinks n entries block))
+
+pub telling-starts : (n entries : ℕ) (block : List ℕ) (c : Bool) (f : List ℕ) → Given n entries block → Telling n entries block c f entries 0 c f
+unfolding blockLinks linksOf
+telling-starts n entries block c f g = record {
+  kept = kept-refl n f;
+  links = g .links;
+  are = g .are;
+  left = rw (g .are) refl;
+}
+
+module _ {n entries : ℕ} {block : List ℕ} {c₀ : Bool} {f₀ : List ℕ} {told at : ℕ} {c : Bool} {f : List ℕ} (t : Telling n entries block c₀ f₀ told at c f) where
+  pub telling-on : (a b next : ℕ) → linkAt n told block at ≡ gives (record { link = (a, b); next = next }) → (u v : ℕ) → u ≡ a → v ≡ b
+      → (c′ : Bool) (f′ : List ℕ) → Reads n c f c′ f′ ((u, v) ∷ []) → Telling n entries block c₀ f₀ (told + 1) next c′ f′
+  unfolding readLinks
+  telling-on a b next e u v eu ev c′ f′ r = elim (walked n block told at (t .links) (t .are)) [
+    | inl (h, z) ↦ absurd (let x = link-accepted n told block at _ e in omega arith)
+    | inr (l, ms, p, q, z) ↦
+        let y : l ≡ record { link = (a, b); next = next } = cc in
+        let m : (u, v) ∷ ms ≡ t .links = rw (eu, ev) (sym (rw y at z)) in
+        record {
+          kept = kept-trans (t .kept) (r .kept);
+          links = ms;
+          are = (rw y at q);
+          left = ap (λ x. readLinks x ms) (r .tables) ∙ ap (readLinks (crossedIn n c f)) m ∙ t .left;
+        }
+  ]
+
+  pub telling-ends : length block ≤ at → Reads n c₀ f₀ c f (linksOf (blockLinks n entries block))
+  unfolding readLinks
+  telling-ends h = elim (walked n block told at (t .links) (t .are)) [
+    | inl (g, z) ↦ record { kept = t .kept; tables = (rw z at (t .left)) }
+    | inr (l, ms, p, q, z) ↦ absurd (let a = link-accepted n told block at l p in omega arith)
+  ]
+
+  pub telling-whole : {A : Type 0} → at < length block → (number place : ℕ) → linkAt n told block at ≡ refuses number place → A
+  telling-whole h number place e = let x = links-stop n block told at number place h e in let z : _≡_ {A = ℕ} 0 1 = cc (x, t .are) in absurd (omega arith)

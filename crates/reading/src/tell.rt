@@ -1,0 +1,87 @@
+// The reading rules: what the links of a block leave in the fragment table.
+ghost use mathlib.Core.Path.{_≡_};
+ghost use mathlib.Core.Bool.{not, _||_};
+ghost use mathlib.Core.List.{[], _∷_};
+ghost use Prim.Native.Nat.{_<_, _-_, max};
+ghost use Rattle.rules.specs.Reading.{above, hear as hearing};
+ghost use Rattle.lists.specs.List.{blockLinks};
+ghost use Rattle.state.specs.Layout.{forestIn};
+ghost use Rattle.reading.specs.Whole.{Whole};
+ghost use Rattle.reading.specs.Tell.{Leaves, Reads, Given, linksOf};
+use crate::climb::is_above;
+use crate::climb::parent_of;
+use crate::words::wide;
+use lists::Link;
+
+// How far the note lies under the fragment's own level, once it hears of a level.
+fn farther(note: u32, own: u32, other: u32) -> u32
+    ensures { λ r. ⌜ r ≡ max note (own - other) ⌝ }
+{
+    if own <= other {
+        return note;
+    }
+    if own - other <= note {
+        return note;
+    }
+    own - other
+}
+
+// What v hears of a link to w.
+fn hear(frag: &mut [u32], n: usize, v: usize, w: usize)
+    requires { ⌜ Whole n (now frag) × (v < n) × (w < n) ⌝ }
+    ensures { λ _. ⌜ Leaves n (now (frag .entry)) (now (frag .exit)) (hearing v w) ⌝ }
+{
+    if parent_of(frag, n, v) == w {
+        frag[3 * n + v] = 1;
+    } else {
+        frag[2 * n + v] = farther(frag[2 * n + v], frag[n + v], frag[n + w]);
+    }
+}
+
+// Whether neither of a and b is above the other.
+fn apart(frag: &[u32], n: usize, a: usize, b: usize) -> bool
+    requires { ⌜ Whole n (now frag) × (a < n) × (b < n) ⌝ }
+    ensures { λ r. ⌜ r ≡ not (above (forestIn n (now (frag .entry))) a b || above (forestIn n (now (frag .entry))) b a) ⌝ }
+{
+    if is_above(frag, n, a, b) {
+        return false;
+    }
+    !is_above(frag, n, b, a)
+}
+
+// One link. Returns whether the pass is false now.
+fn read_link(frag: &mut [u32], n: usize, crossed: bool, a: usize, b: usize) -> bool
+    requires { ⌜ Whole n (now frag) × (a < n) × (b < n) ⌝ }
+    ensures { λ r. ⌜ Reads n crossed (now (frag .entry)) r (now (frag .exit)) ((a, b) ∷ []) ⌝ }
+{
+    let crosses = apart(frag, n, a, b);
+    hear(frag, n, a, b);
+    hear(frag, n, b, a);
+    if crosses {
+        return true;
+    }
+    crossed
+}
+
+// The links of a block that was scanned. Returns whether the pass is false now.
+pub(crate) fn tell(frag: &mut [u32], n: usize, entries: u32, crossed: bool, block: &[u8]) -> bool
+    requires { ⌜ Whole n (now frag) × Given n entries (now block) ⌝ }
+    ensures { λ r. ⌜ Reads n crossed (now (frag .entry)) r (now (frag .exit)) (linksOf (blockLinks n entries (now (block .entry)))) ⌝ }
+{
+    let mut at: usize = 0;
+    let mut told = entries;
+    let mut crosses = crossed;
+    while at < block.len() {
+        match lists::link_at(n as u32, told, block, at) {
+            Link::Ends(a, b, next) => {
+                crosses = read_link(frag, n, crosses, wide(a), wide(b));
+                told += 1;
+                at = next;
+            }
+            Link::Refused(bad) => {
+                return crosses;
+            }
+        }
+    }
+    crosses
+}
