@@ -107,7 +107,7 @@ module _ (n : ℕ) (ps : List ℕ) where
   unfolding adopted
   adopted-rested = record { no-note = refl; no-mark = refl; no-held = refl; no-cross = refl }
 
-  adopted-levels : T (adoptable n ps) → Levels n (parentIn ps) (depth (parentIn ps) n)
+  pub adopted-levels : T (adoptable n ps) → Levels n (parentIn ps) (depth (parentIn ps) n)
   adopted-levels q =
       let (f, r) = adoptable-exact n ps .0 q in
       depth-levels (parentIn ps) n n f (rooted-soon n (parentIn ps) f r)

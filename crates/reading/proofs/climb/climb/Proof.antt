@@ -1,19 +1,16 @@
 -- `reading::climb::climb` meets its contract: what is left to climb from here gives the whole answer.
 -- Assumes nothing.
-use borrow.Author.Needs.{needs}
 use Prim.Native.Nat.{_<_}
-use Rattle.state.specs.Layout.{forestIn}
+use mathlib.Core.Path.{_≡_, refl, _∙_}
+use native.Mathlib.Omega.{arith}
+use borrow.Author.Needs.{needs}
 use Rattle.rules.specs.Laws.Up.{up-zero}
 use Rattle.rules.specs.Tables.{par}
 use Rattle.rules.specs.Forest.{up}
+use Rattle.state.specs.Layout.{forestIn}
 use Rattle.reading.specs.Laws.Climb.{climb-on}
-use native.Mathlib.Omega.{arith}
-use mathlib.Core.Path.{_≡_, refl, _∙_}
 use Rattle.reading.proofs.climb.climb.Statement.{statement}
 use Rattle.reading.proofs.climb.climb.Tie as tie
-use Rattle.reading.proofs.climb.climb.Reads as reads
-use Rattle.reading.proofs.climb.climb.Lts as lts
-use Rattle.reading.proofs.climb.parent_of.Reads as parent-of-reads
 
 abbrev Inv-loop : tie.InvT-loop
 Inv-loop frag n v steps at₀ left₀ at left = (at < n) × (up (par (forestIn n frag)) left at ≡ up (par (forestIn n frag)) steps v)
@@ -21,23 +18,21 @@ Inv-loop frag n v steps at₀ left₀ at left = (at < n) × (up (par (forestIn n
 abbrev μ-loop : tie.MeasureT-loop
 μ-loop frag n v steps at₀ left₀ at left = left
 
--- src/climb.rt:30:5
 loop-holds : tie.Need-loop-holds Inv-loop μ-loop
 loop-holds c = (c .before .pre .1, refl)
 
--- src/climb.rt:31:9
 parent-of-requires : tie.Need-parent-of-requires Inv-loop μ-loop
 parent-of-requires c κs = (c .before .before .before .pre .0, c .before .loop .inv .0)
 
--- src/climb.rt:30:5
 loop-again : tie.Need-loop-again Inv-loop μ-loop
-loop-again c = let p = c .parent-of .ensures in
+loop-again c =
+    let p = c .parent-of .ensures in
     let l = c .before .before .loop in
     (p .1, climb-on _ (l .left) (l .at) _ (p .0) (omega arith) ∙ l .inv .1)
 
--- src/climb.rt:24:1
 returns : tie.Need-returns Inv-loop μ-loop
-returns c = let l = c .before .loop in
+returns c =
+    let l = c .before .loop in
     let z : l .left ≡ 0 = omega arith in
     (rw (z, up-zero) at (l .inv .1))
 

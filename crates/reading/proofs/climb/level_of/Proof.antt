@@ -1,19 +1,14 @@
 -- `reading::climb::level_of` meets its contract.
 -- Assumes nothing.
-use Rattle.reading.specs.Laws.Climb.{whole-lev}
 use native.Mathlib.Omega.{arith}
 use borrow.Author.Needs.{needs}
+use Rattle.reading.specs.Laws.Climb.{whole-lev}
 use Rattle.reading.proofs.climb.level_of.Statement.{statement}
 use Rattle.reading.proofs.climb.level_of.Tie as tie
-use Rattle.reading.proofs.climb.level_of.Reads as reads
-use Rattle.reading.proofs.climb.level_of.Lts as lts
-use Rattle.reading.proofs.words.rank_at.Reads as rank-at-reads
 
--- src/climb.rt:38:5
 sub-result : tie.Need-sub-result
 sub-result c = let s = c .before .before in omega (arith, whole-lev (s .pre .0) (s .args .v) (s .pre .1))
 
--- src/climb.rt:34:1
 returns : tie.Need-returns
 returns c = let s = c .before .before in omega (arith, whole-lev (s .pre .0) (s .args .v) (s .pre .1))
 

@@ -1,19 +1,14 @@
-use native.Mathlib.Omega.{arith}
 -- `reading::count::is_child` meets its contract.
 -- Assumes nothing.
-use Rattle.reading.specs.Laws.Count.{child-not, child-other}
+use native.Mathlib.Omega.{arith}
 use borrow.Author.Needs.{needs}
+use Rattle.reading.specs.Laws.Count.{child-not, child-other}
 use Rattle.reading.proofs.count.is_child.Statement.{statement}
 use Rattle.reading.proofs.count.is_child.Tie as tie
-use Rattle.reading.proofs.count.is_child.Reads as reads
-use Rattle.reading.proofs.count.is_child.Lts as lts
-use Rattle.reading.proofs.climb.parent_of.Reads as parent-of-reads
 
--- src/count.rt:79:9
 returns : tie.Need-returns
 returns c = child-not _ _ _ _ _ (c .before .parent-of .ensures .0) (c .if1 .taken)
 
--- src/count.rt:74:1
 returns-2 : tie.Need-returns-2
 returns-2 c = child-other _ _ _ _ _ (c .before .parent-of .ensures .0) (omega arith)
 

@@ -1,19 +1,14 @@
 -- `reading::count::is_sole` meets its contract.
 -- Assumes nothing.
 use mathlib.Core.Path.{sym, _∙_}
-use Rattle.reading.specs.Laws.Count.{sole-first, sole-second}
 use borrow.Author.Needs.{needs}
+use Rattle.reading.specs.Laws.Count.{sole-first, sole-second}
 use Rattle.reading.proofs.count.is_sole.Statement.{statement}
 use Rattle.reading.proofs.count.is_sole.Tie as tie
-use Rattle.reading.proofs.count.is_sole.Reads as reads
-use Rattle.reading.proofs.count.is_sole.Lts as lts
-use Rattle.reading.proofs.count.sole_below.Reads as sole-below-reads
 
--- src/count.rt:97:9
 returns : tie.Need-returns
 returns c = sole-first _ _ _ _ (sym (c .before .sole-below .ensures) ∙ c .if1 .taken)
 
--- src/count.rt:92:1
 returns-2 : tie.Need-returns-2
 returns-2 c = sole-second _ _ _ _ (sym (c .before .before .sole-below .ensures) ∙ c .before .if1 .left) _ (c .sole-below2 .ensures)
 

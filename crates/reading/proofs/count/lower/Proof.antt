@@ -1,25 +1,18 @@
 -- `reading::count::lower` meets its contract.
 -- Assumes nothing.
-use native.Mathlib.Omega.{arith}
 use mathlib.Core.Path.{sym, _∙_}
-use Rattle.reading.specs.Laws.Count.{lower-not, lower-yes, lower-no}
+use native.Mathlib.Omega.{arith}
 use borrow.Author.Needs.{needs}
+use Rattle.reading.specs.Laws.Count.{lower-not, lower-yes, lower-no}
 use Rattle.reading.proofs.count.lower.Statement.{statement}
 use Rattle.reading.proofs.count.lower.Tie as tie
-use Rattle.reading.proofs.count.lower.Reads as reads
-use Rattle.reading.proofs.count.lower.Lts as lts
-use Rattle.reading.proofs.climb.is_above.Reads as is-above-reads
-use Rattle.reading.proofs.count.low.Reads as low-reads
 
--- src/count.rt:51:9
 returns : tie.Need-returns
 returns c = lower-not _ _ _ (omega arith)
 
--- src/count.rt:54:9
 returns-2 : tie.Need-returns-2
 returns-2 c = lower-yes _ _ _ (omega arith) (sym (c .before .is-above .ensures) ∙ c .if2 .taken) _ (omega arith)
 
--- src/count.rt:45:1
 returns-3 : tie.Need-returns-3
 returns-3 c = lower-no _ _ _ (sym (c .before .is-above .ensures) ∙ c .if2 .left)
 

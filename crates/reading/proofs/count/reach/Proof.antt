@@ -1,20 +1,16 @@
-use Rattle.reading.specs.Laws.Count.{reach-is}
 -- `reading::count::reach` meets its contract.
 -- Assumes nothing.
-use Rattle.state.specs.Layout.{forestIn}
-use Rattle.rules.specs.Reading.{above, lowest}
-use Rattle.rules.specs.Search.{least as leastOf}
-use borrow.Author.Needs.{needs}
 use Prim.Native.Nat.{_≤_, _-_}
-use native.Mathlib.Omega.{arith}
 use mathlib.Core.Path.{_≡_, _∙_}
+use native.Mathlib.Omega.{arith}
+use borrow.Author.Needs.{needs}
+use Rattle.rules.specs.Search.{least as leastOf}
+use Rattle.rules.specs.Reading.{above, lowest}
+use Rattle.state.specs.Layout.{forestIn}
+use Rattle.reading.specs.Laws.Count.{reach-is}
 use Rattle.reading.specs.Laws.Count.{least-starts, least-on}
 use Rattle.reading.proofs.count.reach.Statement.{statement}
 use Rattle.reading.proofs.count.reach.Tie as tie
-use Rattle.reading.proofs.count.reach.Reads as reads
-use Rattle.reading.proofs.count.reach.Lts as lts
-use Rattle.reading.proofs.count.low.Reads as low-reads
-use Rattle.reading.proofs.count.lower.Reads as lower-reads
 
 abbrev Inv-loop : tie.InvT-loop
 Inv-loop frag n v least₀ u₀ least u = (u ≤ n) × (least ≡ leastOf (above (forestIn n frag) v) (lowest (forestIn n frag)) (lowest (forestIn n frag) v) u)
@@ -22,15 +18,12 @@ Inv-loop frag n v least₀ u₀ least u = (u ≤ n) × (least ≡ leastOf (above
 abbrev μ-loop : tie.MeasureT-loop
 μ-loop frag n v least₀ u₀ least u = n - u
 
--- src/count.rt:66:5
 loop-holds : tie.Need-loop-holds Inv-loop μ-loop
 loop-holds c = (omega arith, c .low .ensures ∙ least-starts _ _ _)
 
--- src/count.rt:66:5
 loop-again : tie.Need-loop-again Inv-loop μ-loop
 loop-again c = (omega arith, least-on _ _ _ _ _ _ (c .before .before .loop .inv .1) (c .lower .ensures))
 
--- src/count.rt:60:1
 returns : tie.Need-returns Inv-loop μ-loop
 returns c = reach-is _ _ _ _ _ (c .before .loop .inv .1) (omega arith)
 

@@ -1,19 +1,16 @@
-use native.Mathlib.Decide.{ℕ-discrete}
 -- `reading::count::smallest` meets its contract: no fragment before u is in the tree.
 -- Assumes nothing.
-use Rattle.state.specs.Layout.{forestIn}
-use Rattle.rules.specs.Reading.{rootOf}
+use Prim.Native.Nat.{ℕ, _≤_, _<_, _-_}
+use mathlib.Core.Path.{_≡_, sym, ap, _∙_}
+use native.Mathlib.Decide.{ℕ-discrete}
+use native.Mathlib.Omega.{arith}
 use borrow.Author.Count.{below-more}
 use borrow.Author.Needs.{needs}
-use Prim.Native.Nat.{ℕ, _≤_, _<_, _-_}
-use native.Mathlib.Omega.{arith}
-use mathlib.Core.Path.{_≡_, sym, ap, _∙_}
+use Rattle.rules.specs.Reading.{rootOf}
+use Rattle.state.specs.Layout.{forestIn}
 use Rattle.reading.specs.Laws.Count.{piece-found}
 use Rattle.reading.proofs.count.smallest.Statement.{statement}
 use Rattle.reading.proofs.count.smallest.Tie as tie
-use Rattle.reading.proofs.count.smallest.Reads as reads
-use Rattle.reading.proofs.count.smallest.Lts as lts
-use Rattle.reading.proofs.climb.root.Reads as root-reads
 
 abbrev Inv-loop : tie.InvT-loop
 Inv-loop frag n v top u₀ u = (u ≤ v) × (top ≡ rootOf (forestIn n frag) v) × ((j : ℕ) → j < u → rootOf (forestIn n frag) j ≡ rootOf (forestIn n frag) v → ⊥)
@@ -31,18 +28,17 @@ not-yet c =
       | no d ↦ omega arith
     ]
 
--- src/count.rt:22:5
 loop-less : tie.Need-loop-less Inv-loop μ-loop
 loop-less c = omega (arith, not-yet c)
 
--- src/count.rt:22:5
 loop-again : tie.Need-loop-again Inv-loop μ-loop
-loop-again c = let l = c .before .before .loop in
+loop-again c =
+    let l = c .before .before .loop in
     (omega (arith, not-yet c), l .inv .1, below-more _ _ (l .inv .2) (λ e. c .if1 .taken (c .before .root2 .ensures ∙ e ∙ sym (l .inv .1))))
 
--- src/count.rt:16:1
 returns : tie.Need-returns Inv-loop μ-loop
-returns c = let l = c .before .before .loop in
+returns c =
+    let l = c .before .before .loop in
     piece-found _ _ _ _ (omega arith) (sym (c .before .root2 .ensures) ∙ c .if1 .left ∙ l .inv .1) (l .inv .2)
 
 pub smallest-spec : {M : Type 1} → statement M

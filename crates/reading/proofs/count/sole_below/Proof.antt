@@ -1,22 +1,15 @@
 -- `reading::count::sole_below` meets its contract.
 -- Assumes nothing.
-use borrow.Author.Tests.{not-true, not-false}
 use mathlib.Core.Path.{sym, _∙_}
-use Rattle.reading.specs.Laws.Count.{sole-not, sole-reach}
+use borrow.Author.Tests.{not-true, not-false}
 use borrow.Author.Needs.{needs}
+use Rattle.reading.specs.Laws.Count.{sole-not, sole-reach}
 use Rattle.reading.proofs.count.sole_below.Statement.{statement}
 use Rattle.reading.proofs.count.sole_below.Tie as tie
-use Rattle.reading.proofs.count.sole_below.Reads as reads
-use Rattle.reading.proofs.count.sole_below.Lts as lts
-use Rattle.reading.proofs.climb.level_of.Reads as level-of-reads
-use Rattle.reading.proofs.count.is_child.Reads as is-child-reads
-use Rattle.reading.proofs.count.reach.Reads as reach-reads
 
--- src/count.rt:87:9
 returns : tie.Need-returns
 returns c = sole-not _ _ _ _ (sym (c .before .is-child .ensures) ∙ not-true _ (c .if1 .taken))
 
--- src/count.rt:82:1
 returns-2 : tie.Need-returns-2
 returns-2 c = sole-reach _ _ _ _ (sym (c .before .before .before .is-child .ensures) ∙ not-false _ (c .before .before .if1 .left)) _ _ (c .before .reach .ensures) (c .level-of .ensures)
 

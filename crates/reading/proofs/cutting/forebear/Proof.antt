@@ -1,20 +1,14 @@
 -- `reading::cutting::forebear` meets its contract.
 -- Assumes nothing.
 use native.Mathlib.Omega.{arith}
-use Rattle.reading.specs.Laws.Cut.{forebear-self, forebear-climb}
 use borrow.Author.Needs.{needs}
+use Rattle.reading.specs.Laws.Cut.{forebear-self, forebear-climb}
 use Rattle.reading.proofs.cutting.forebear.Statement.{statement}
 use Rattle.reading.proofs.cutting.forebear.Tie as tie
-use Rattle.reading.proofs.cutting.forebear.Reads as reads
-use Rattle.reading.proofs.cutting.forebear.Lts as lts
-use Rattle.reading.proofs.climb.climb.Reads as climb-reads
-use Rattle.reading.proofs.climb.level_of.Reads as level-of-reads
 
--- src/cut.rt:28:9
 returns : tie.Need-returns
 returns c = let p = c .before .before .before .pre in forebear-self (p .0) _ (p .1) _ (omega arith)
 
--- src/cut.rt:22:1
 returns-2 : tie.Need-returns-2
 returns-2 c = let p = c .before .before .before .before .pre in forebear-climb (p .0) _ (p .1) _ _ _ (c .climb .ensures) (omega arith)
 

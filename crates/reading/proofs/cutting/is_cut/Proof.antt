@@ -2,33 +2,23 @@
 -- Assumes nothing.
 use mathlib.Core.Path.{refl, sym, _∙_}
 use native.Mathlib.Omega.{arith}
-use Rattle.reading.specs.Laws.Cut.{cut-root, cut-marks, outside-same, outside-trans, outside-whole}
 use borrow.Author.Needs.{needs}
+use Rattle.reading.specs.Laws.Cut.{cut-root, cut-marks, outside-same, outside-trans, outside-whole}
 use Rattle.reading.proofs.cutting.is_cut.Statement.{statement}
 use Rattle.reading.proofs.cutting.is_cut.Tie as tie
-use Rattle.reading.proofs.cutting.is_cut.Reads as reads
-use Rattle.reading.proofs.cutting.is_cut.Lts as lts
-use Rattle.reading.proofs.climb.parent_of.Reads as parent-of-reads
-use Rattle.reading.proofs.count.children.Reads as children-reads
-use Rattle.reading.proofs.cutting.mark_all.Reads as mark-all-reads
-use Rattle.reading.proofs.cutting.unmarked.Reads as unmarked-reads
-use Rattle.reading.proofs.cutting.wipe.Reads as wipe-reads
 
--- src/cut.rt:101:9
 returns : tie.Need-returns
 returns c = (cut-root _ _ _ _ (sym (c .before .before .before .parent-of .ensures .0) ∙ c .before .before .if1 .taken) (c .children .ensures), refl)
 
--- src/cut.rt:104:9
 unmarked-requires : tie.Need-unmarked-requires
 unmarked-requires c κs = (outside-whole (c .before .before .before .mark-all .ensures .outside) (c .before .before .before .before .before .before .before .before .before .pre .0), c .before .before .before .before .before .before .before .before .before .pre .1)
 
--- src/cut.rt:105:5
 wipe-requires : tie.Need-wipe-requires
 wipe-requires c κs = outside-whole (c .before .before .before .before .before .mark-all .ensures .outside) (c .before .before .before .before .before .before .before .before .before .before .before .pre .0)
 
--- src/cut.rt:96:1
 returns-2 : tie.Need-returns-2
-returns-2 c = let s = c .before .before .before .before .before .before .before .before .before .before .before .before .before .before in
+returns-2 c =
+    let s = c .before .before .before .before .before .before .before .before .before .before .before .before .before .before in
     let m = c .before .before .before .before .before .before .before .before .mark-all .ensures in
     let w = c .before .before .wipe .ensures in (
       c .before .before .before .before .unmarked .ensures ∙ cut-marks (s .pre .0) _ (λ e. c .before .before .before .before .before .before .before .before .before .before .if1 .left (c .before .before .before .before .before .before .before .before .before .before .before .parent-of .ensures .0 ∙ e)) m,

@@ -1,16 +1,13 @@
 -- `reading::cutting::mark_all` meets its contract.
 -- Assumes nothing.
-use mathlib.Core.Path.{_≡_}
-use borrow.Author.Needs.{needs}
 use Prim.Native.Nat.{_≤_, _-_}
+use mathlib.Core.Path.{_≡_}
 use native.Mathlib.Omega.{arith}
+use borrow.Author.Needs.{needs}
 use Rattle.reading.specs.Cut.{Marked}
 use Rattle.reading.specs.Laws.Cut.{marked-starts, marked-on, outside-whole}
 use Rattle.reading.proofs.cutting.mark_all.Statement.{statement}
 use Rattle.reading.proofs.cutting.mark_all.Tie as tie
-use Rattle.reading.proofs.cutting.mark_all.Reads as reads
-use Rattle.reading.proofs.cutting.mark_all.Lts as lts
-use Rattle.reading.proofs.cutting.mark_one.Reads as mark-one-reads
 
 abbrev Inv-loop : tie.InvT-loop
 Inv-loop frag₀ n v u₀ frag u = (u ≤ n) × Marked n v u frag₀ frag
@@ -18,21 +15,18 @@ Inv-loop frag₀ n v u₀ frag u = (u ≤ n) × Marked n v u frag₀ frag
 abbrev μ-loop : tie.MeasureT-loop
 μ-loop frag₀ n v u₀ frag u = n - u
 
--- src/cut.rt:52:5
 loop-holds : tie.Need-loop-holds Inv-loop μ-loop
 loop-holds c = (omega arith, marked-starts _ _ _ (c .before .pre .2))
 
--- src/cut.rt:53:9
 mark-one-requires : tie.Need-mark-one-requires Inv-loop μ-loop
 mark-one-requires c κs = let p = c .before .before .before .before .pre in (outside-whole (c .before .before .loop .inv .1 .outside) (p .0), p .1, omega arith)
 
--- src/cut.rt:52:5
 loop-again : tie.Need-loop-again Inv-loop μ-loop
 loop-again c = (omega arith, marked-on (c .before .before .before .before .before .loop .inv .1) (c .before .before .mark-one .ensures))
 
--- src/cut.rt:47:1
 returns : tie.Need-returns Inv-loop μ-loop
-returns c = let e : c .before .loop .u ≡ c .before .before .before .args .n = omega arith in
+returns c =
+    let e : c .before .loop .u ≡ c .before .before .before .args .n = omega arith in
     (rw e at (c .before .loop .inv .1))
 
 pub mark-all-spec : {M : Type 1} → statement M

@@ -1,18 +1,15 @@
 -- `reading::cutting::unmarked` meets its contract.
 -- Assumes nothing.
-use Rattle.rules.specs.Search.{some}
+use Prim.Native.Nat.{_≤_, _-_}
 use mathlib.Core.Bool.{false}
 use mathlib.Core.Path.{_≡_, sym, ap, _∙_}
-use borrow.Author.Needs.{needs}
-use Prim.Native.Nat.{_≤_, _-_}
 use native.Mathlib.Omega.{arith}
+use borrow.Author.Needs.{needs}
+use Rattle.rules.specs.Search.{some}
 use Rattle.reading.specs.Cut.{unmarkedChild}
 use Rattle.reading.specs.Laws.Cut.{some-none, some-on, some-found}
 use Rattle.reading.proofs.cutting.unmarked.Statement.{statement}
 use Rattle.reading.proofs.cutting.unmarked.Tie as tie
-use Rattle.reading.proofs.cutting.unmarked.Reads as reads
-use Rattle.reading.proofs.cutting.unmarked.Lts as lts
-use Rattle.reading.proofs.cutting.is_unmarked.Reads as is-unmarked-reads
 
 abbrev Inv-loop : tie.InvT-loop
 Inv-loop frag n v c₀ c = (c ≤ n) × (false ≡ some (unmarkedChild n frag v) c)
@@ -20,21 +17,18 @@ Inv-loop frag n v c₀ c = (c ≤ n) × (false ≡ some (unmarkedChild n frag v)
 abbrev μ-loop : tie.MeasureT-loop
 μ-loop frag n v c₀ c = n - c
 
--- src/cut.rt:75:5
 loop-holds : tie.Need-loop-holds Inv-loop μ-loop
 loop-holds c = (omega arith, some-none _)
 
--- src/cut.rt:77:13
 returns : tie.Need-returns Inv-loop μ-loop
 returns c = some-found _ _ _ (omega arith) (sym (c .before .is-unmarked .ensures) ∙ c .if1 .taken)
 
--- src/cut.rt:75:5
 loop-again : tie.Need-loop-again Inv-loop μ-loop
 loop-again c = (omega arith, some-on _ _ (c .before .before .before .loop .inv .1) (sym (c .before .is-unmarked .ensures) ∙ c .if1 .left))
 
--- src/cut.rt:70:1
 returns-2 : tie.Need-returns-2 Inv-loop μ-loop
-returns-2 c = let l = c .before .loop in
+returns-2 c =
+    let l = c .before .loop in
     let e : l .c ≡ c .before .before .before .args .n = omega arith in
     l .inv .1 ∙ ap (some _) e
 

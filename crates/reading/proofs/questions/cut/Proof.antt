@@ -1,46 +1,36 @@
 -- `reading::questions::cut` meets its contract.
 -- Assumes nothing.
-use Rattle.reading.specs.Laws.Asked.{read-settled, passed-whole, passed-unmarked, same-cut}
-use Rattle.reading.specs.Laws.Head.{head-at, head-passed, one-refused, one-far, one-answer}
+use mathlib.Core.Path.{refl, sym, ap, _∙_}
+use native.Mathlib.Omega.{arith}
+use borrow.Author.Needs.{needs}
+use Rattle.base.specs.Answer.{gives}
 use Rattle.state.specs.Ask.{cutCall}
 use Rattle.state.specs.Test.{isRead}
-use Rattle.base.specs.Answer.{gives}
-use native.Mathlib.Omega.{arith}
-use mathlib.Core.Path.{refl, sym, ap, _∙_}
-use borrow.Author.Needs.{needs}
+use Rattle.reading.specs.Laws.Asked.{read-settled, passed-whole, passed-unmarked, same-cut}
+use Rattle.reading.specs.Laws.Head.{head-at, head-passed, one-refused, one-far, one-answer}
 use Rattle.reading.proofs.questions.cut.Statement.{statement}
 use Rattle.reading.proofs.questions.cut.Tie as tie
-use Rattle.reading.proofs.questions.cut.Reads as reads
-use Rattle.reading.proofs.questions.cut.Lts as lts
-use Rattle.reading.proofs.cutting.is_cut.Reads as is-cut-reads
-use Rattle.reading.proofs.head.head.Reads as head-reads
-use Rattle.reading.proofs.questions.judged.Reads as judged-reads
-use Rattle.reading.proofs.questions.not_judged.Reads as not-judged-reads
-use Rattle.reading.proofs.stage.is_read.Reads as is-read-reads
 
--- src/questions.rt:82:9
 head-requires : tie.Need-head-requires
 head-requires c κs = λ q. read-settled (c .before .before .before .before .args .s .stage) (sym (c .before .is-read .ensures) ∙ q)
 
--- src/questions.rt:84:9
 returns : tie.Need-returns
 unfolding cutCall
 returns c = (c .not-judged .ensures ∙ one-refused isRead _ _ _ _ (c .before .before .head .ensures ∙ head-at isRead _ _ _ _ (c .before .before .before .before .is-read .ensures)) _ _ (λ e. omega arith), refl)
 
--- src/questions.rt:88:9
 returns-2 : tie.Need-returns-2
 unfolding cutCall
 returns-2 c = (c .not-judged2 .ensures ∙ one-far isRead _ _ _ _ (c .before .before .before .head .ensures ∙ head-at isRead _ _ _ _ (c .before .before .before .before .before .is-read .ensures)) _ _ (omega arith) (omega arith), refl)
 
--- src/questions.rt:90:12
 is-cut-requires : tie.Need-is-cut-requires
-is-cut-requires c κs = let p = head-passed _ _ _ _ (sym (c .before .before .before .head .ensures) ∙ omega arith) in
+is-cut-requires c κs =
+    let p = head-passed _ _ _ _ (sym (c .before .before .before .head .ensures) ∙ omega arith) in
     (passed-whole p (read-settled (c .before .before .before .before .before .before .before .before .args .s .stage) (sym (c .before .before .before .before .before .is-read .ensures) ∙ p .may)), omega arith, passed-unmarked p)
 
--- src/questions.rt:78:1
 returns-3 : tie.Need-returns-3
 unfolding cutCall
-returns-3 c = let a = c .before .before .before .before .before .before .before .before .before .before .before .before .args in
+returns-3 c =
+    let a = c .before .before .before .before .before .before .before .before .before .before .before .before .args in
     let d = c .before .before .before .is-cut .ensures in (
       c .judged .ensures ∙ ap gives (d .0 ∙ same-cut (a .s) _ _ (a .v)) ∙ one-answer isRead _ _ _ _ (c .before .before .before .before .before .before .before .head .ensures ∙ head-at isRead _ _ _ _ (c .before .before .before .before .before .before .before .before .before .is-read .ensures)) _ _ (omega arith) (omega arith),
       d .1,

@@ -1,60 +1,54 @@
 -- `reading::taking::take` meets its contract.
 -- Assumes nothing.
+use Prim.Native.Nat.{_+_}
+use mathlib.Core.Path.{sym, ap, _∙_}
+use native.Mathlib.Omega.{arith}
+use borrow.Author.Needs.{needs}
+use Rattle.lists.specs.Told.{toldCount}
+use Rattle.state.specs.Test.{isReading}
 use Rattle.reading.specs.Laws.Pass.{reading-settled}
 use Rattle.reading.specs.Laws.Take.{scanned, scanned-few, scan-refused, take-refused, take-bad, take-on}
 use Rattle.reading.specs.Laws.Asked.{passed-whole}
 use Rattle.reading.specs.Laws.Head.{head-at, head-passed}
-use Rattle.lists.specs.Told.{toldCount}
-use Rattle.state.specs.Test.{isReading}
-use Prim.Native.Nat.{_+_}
-use native.Mathlib.Omega.{arith}
-use mathlib.Core.Path.{sym, ap, _∙_}
-use borrow.Author.Needs.{needs}
 use Rattle.reading.proofs.taking.take.Statement.{statement}
 use Rattle.reading.proofs.taking.take.Tie as tie
-use Rattle.reading.proofs.taking.take.Reads as reads
-use Rattle.reading.proofs.taking.take.Lts as lts
-use Rattle.lists.proofs.scan.Reads as scan-reads
-use Rattle.reading.proofs.words.wide.Reads as wide-reads
-use Rattle.reading.proofs.head.head.Reads as head-reads
-use Rattle.reading.proofs.stage.is_reading.Reads as is-reading-reads
-use Rattle.reading.proofs.tell.tell.Reads as tell-reads
 
--- src/take.rt:19:9
 head-requires : tie.Need-head-requires
 head-requires c κs = λ q. reading-settled (c .before .before .before .before .before .before .args .s .stage) (sym (c .before .before .is-reading .ensures) ∙ q)
 
--- src/take.rt:21:9
 returns : tie.Need-returns
 returns c = take-refused _ _ _ _ _ (c .before .head .ensures ∙ head-at isReading _ _ _ _ (c .before .before .before .before .is-reading .ensures)) (λ e. omega arith)
 
--- src/take.rt:27:19
 cast-entries : tie.Need-cast-entries
 cast-entries c = let p = head-passed _ _ _ _ (sym (c .before .before .head .ensures) ∙ omega arith) in omega (arith, p .found .agrees .entries-few)
 
--- src/take.rt:28:23
 cast-scan : tie.Need-cast-scan
 cast-scan c = let p = head-passed _ _ _ _ (sym (c .before .before .head .ensures) ∙ omega arith) in omega (arith, p .bounds .fragments)
 
--- src/take.rt:30:17
 tell-requires : tie.Need-tell-requires
-tell-requires c κs = let p = head-passed _ _ _ _ (sym (c .before .before .before .before .before .before .before .head .ensures) ∙ omega arith) in
+tell-requires c κs =
+    let p = head-passed _ _ _ _ (sym (c .before .before .before .before .before .before .before .head .ensures) ∙ omega arith) in
     let x = scanned _ _ _ _ (sym (ap toldCount (c .before .before .count .given .1)) ∙ c .before .before .before .before .scan .ensures) in
     (passed-whole p (reading-settled (c .before .before .before .before .before .before .before .before .before .before .before .before .before .before .args .s .stage) (sym (c .before .before .before .before .before .before .before .before .before .before .is-reading .ensures) ∙ p .may)), x .given)
 
--- src/take.rt:36:26
 add-t24 : tie.Need-add-t24
-add-t24 c = let p = head-passed _ _ _ _ (sym (c .before .before .before .before .before .before .before .before .before .before .before .before .head .ensures) ∙ omega arith) in
+add-t24 c =
+    let p = head-passed _ _ _ _ (sym (c .before .before .before .before .before .before .before .before .before .before .before .before .head .ensures) ∙ omega arith) in
     let x = scanned _ _ _ _ (sym (ap toldCount (c .before .before .before .before .before .before .before .count .given .1)) ∙ c .before .before .before .before .before .before .before .before .before .scan .ensures) in
     omega (arith, scanned-few x, c .before .wide .ensures .says, p .found .agrees .entries-few)
 
--- src/take.rt:15:1
 returns-2 : tie.Need-returns-2
-returns-2 c = let p = head-passed _ _ _ _ (sym (c .before .before .before .before .before .before .before .before .before .before .before .before .head .ensures) ∙ omega arith) in
-    let x = scanned _ _ _ _ (sym (ap toldCount (c .before .before .before .before .before .before .before .count .given .1)) ∙ c .before .before .before .before .before .before .before .before .before .scan .ensures) in
-    take-on (c .before .before .before .before .before .before .before .before .before .before .before .before .before .before .before .before .before .before .before .args .s) _ _ _ _ (c .before .before .before .before .before .before .before .before .before .before .before .before .head .ensures ∙ head-at isReading _ _ _ _ (c .before .before .before .before .before .before .before .before .before .before .before .before .before .before .before .is-reading .ensures)) (omega arith) p (c .before .before .before .before .before .before .before .before .before .before .before .before .before .before .before .is-reading .ensures) _ _ _ _ x (c .before .before .before .before .tell .ensures) (ap (λ k. c .before .before .before .before .before .before .before .before .before .before .before .before .before .before .before .before .before .before .before .args .s .entries + k) (c .before .wide .ensures .says))
+returns-2 c =
+    let d = c .before .before .before .before .before .before .before in
+    let h = d .before .before .before .before .before in
+    let s = h .before .before .before .before .before .before .before .args .s in
+    let p = head-passed _ _ _ _ (sym (h .head .ensures) ∙ omega arith) in
+    let x = scanned _ _ _ _ (sym (ap toldCount (d .count .given .1)) ∙ d .before .before .scan .ensures) in
+    let reading = h .before .before .before .is-reading .ensures in
+    take-on s _ _ _ _ (h .head .ensures ∙ head-at isReading _ _ _ _ reading) (omega arith) p reading _ _ _ _ x
+    (c .before .before .before .before .tell .ensures)
+    (ap (λ k. s .entries + k) (c .before .wide .ensures .says))
 
--- src/take.rt:15:1
 returns-3 : tie.Need-returns-3
 returns-3 c = take-bad (c .before .before .before .before .before .before .before .before .before .before .before .before .before .args .s) _ _ _ _ (c .before .before .before .before .before .before .head .ensures ∙ head-at isReading _ _ _ _ (c .before .before .before .before .before .before .before .before .before .is-reading .ensures)) (omega arith) _ _ (scan-refused _ _ _ _ _ (sym (ap toldCount (c .before .bad .given .1)) ∙ c .before .before .before .scan .ensures))
 

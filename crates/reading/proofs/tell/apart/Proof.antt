@@ -1,19 +1,14 @@
 -- `reading::tell::apart` meets its contract.
 -- Assumes nothing.
-use Rattle.reading.specs.Laws.Tell.{joined-first, joined-second}
 use mathlib.Core.Path.{sym, _∙_}
 use borrow.Author.Needs.{needs}
+use Rattle.reading.specs.Laws.Tell.{joined-first, joined-second}
 use Rattle.reading.proofs.tell.apart.Statement.{statement}
 use Rattle.reading.proofs.tell.apart.Tie as tie
-use Rattle.reading.proofs.tell.apart.Reads as reads
-use Rattle.reading.proofs.tell.apart.Lts as lts
-use Rattle.reading.proofs.climb.is_above.Reads as is-above-reads
 
--- src/tell.rt:44:9
 returns : tie.Need-returns
 returns c = joined-first _ _ (sym (c .before .is-above .ensures) ∙ c .if1 .taken)
 
--- src/tell.rt:39:1
 returns-2 : tie.Need-returns-2
 returns-2 c = joined-second _ _ _ (sym (c .before .before .is-above .ensures) ∙ c .before .if1 .left) (c .is-above2 .ensures)
 

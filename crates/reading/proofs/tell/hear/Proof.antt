@@ -1,23 +1,19 @@
 -- `reading::tell::hear` meets its contract: one store, of the mark or of the note.
 -- Assumes nothing.
-use Rattle.reading.specs.Laws.Tell.{hear-mark, hear-note}
 use mathlib.Core.Path.{sym, _∙_}
 use borrow.Author.Needs.{needs}
+use Rattle.reading.specs.Laws.Tell.{hear-mark, hear-note}
 use Rattle.reading.proofs.tell.hear.Statement.{statement}
 use Rattle.reading.proofs.tell.hear.Tie as tie
-use Rattle.reading.proofs.tell.hear.Reads as reads
-use Rattle.reading.proofs.tell.hear.Lts as lts
-use Rattle.reading.proofs.climb.parent_of.Reads as parent-of-reads
-use Rattle.reading.proofs.tell.farther.Reads as farther-reads
 
--- src/tell.rt:27:1
 returns : tie.Need-returns
-returns c = let p = c .before .before .before .before .pre in
+returns c =
+    let p = c .before .before .before .before .pre in
     hear-mark (p .0) _ (p .1) _ (sym (c .before .parent-of .ensures .0) ∙ c .if1 .taken)
 
--- src/tell.rt:27:1
 returns-2 : tie.Need-returns-2
-returns-2 c = let p = c .before .before .before .before .before .before .before .before .pre in
+returns-2 c =
+    let p = c .before .before .before .before .before .before .before .before .pre in
     hear-note (p .0) _ (p .1) _ (p .2) _ (c .before .before .before .before .before .parent-of .ensures .0) (c .before .before .before .before .if1 .left) _ (c .farther .ensures)
 
 pub hear-spec : {M : Type 1} → statement M

@@ -1,28 +1,24 @@
 -- `reading::tell::read_link` meets its contract: both ends hear, and the pass is false where neither is above the other.
 -- Assumes nothing.
-use Rattle.reading.specs.Laws.Tell.{kept-whole, read-apart, read-joined}
 use borrow.Author.Needs.{needs}
+use Rattle.reading.specs.Laws.Tell.{kept-whole, read-apart, read-joined}
 use Rattle.reading.proofs.tell.read_link.Statement.{statement}
 use Rattle.reading.proofs.tell.read_link.Tie as tie
-use Rattle.reading.proofs.tell.read_link.Reads as reads
-use Rattle.reading.proofs.tell.read_link.Lts as lts
-use Rattle.reading.proofs.tell.apart.Reads as apart-reads
-use Rattle.reading.proofs.tell.hear.Reads as hear-reads
 
--- src/tell.rt:56:5
 hear-requires-2 : tie.Need-hear-requires-2
-hear-requires-2 c κs = let p = c .before .before .before .before .before .before .before .before .pre in
+hear-requires-2 c κs =
+    let p = c .before .before .before .before .before .before .before .before .pre in
     (kept-whole (p .0) (c .before .before .before .hear .ensures .kept), p .2, p .1)
 
--- src/tell.rt:58:9
 returns : tie.Need-returns
-returns c = let d = c .before .before .before in
+returns c =
+    let d = c .before .before .before in
     let e = d .before .before .before .before in
     read-apart _ _ (e .hear .ensures) (d .hear2 .ensures) _ _ (e .before .before .apart .ensures) (c .if1 .taken)
 
--- src/tell.rt:50:1
 returns-2 : tie.Need-returns-2
-returns-2 c = let d = c .before .before .before in
+returns-2 c =
+    let d = c .before .before .before in
     let e = d .before .before .before .before in
     read-joined _ _ (e .hear .ensures) (d .hear2 .ensures) _ _ (e .before .before .apart .ensures) (c .if1 .left)
 
