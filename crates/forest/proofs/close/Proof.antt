@@ -1,0 +1,68 @@
+-- `forest::close` meets its contract: in each stage it is the call of the crate below.
+-- Assumes nothing.
+use mathlib.Core.Path.{sym, _∙_}
+use Rattle.forest.specs.Stages.{close-building, close-reading}
+use borrow.Author.Needs.{needs}
+use Rattle.forest.proofs.close.Statement.{statement}
+use Rattle.forest.proofs.close.Tie as tie
+use Rattle.forest.proofs.close.Reads as reads
+use Rattle.forest.proofs.close.Lts as lts
+use Rattle.building.proofs.close.Reads as closing-close-reads
+use Rattle.forest.proofs.in_building.Reads as in-building-reads
+use Rattle.reading.proofs.close.Reads as closing-close-reads′
+
+-- src/lib.rt:52:8
+in-building-requires : tie.Need-in-building-requires
+in-building-requires c κs = search needs
+
+-- src/lib.rt:53:9
+close-requires : tie.Need-close-requires
+close-requires c κs = search needs
+
+-- src/lib.rt:55:9
+close-requires-2 : tie.Need-close-requires-2
+close-requires-2 c κs = search needs
+
+-- src/lib.rt:48:1
+same-length : tie.Need-same-length
+same-length c = search needs
+
+-- src/lib.rt:48:1
+same-length-2 : tie.Need-same-length-2
+same-length-2 c = search needs
+
+-- src/lib.rt:48:1
+returns : tie.Need-returns
+returns c =
+    let a = c .before .before .before .before .before .before .before .before .before .before .before .args in
+    let b = c .before .before .before .before .before .before .before .before in
+    c .before .before .before .before .close .ensures ∙ close-building (a .s) (a .frag .now) (a .held .now) (sym (b .in-building .ensures) ∙ c .before .before .before .before .before .before .before .if1 .taken)
+
+-- src/lib.rt:48:1
+same-length-3 : tie.Need-same-length-3
+same-length-3 c = search needs
+
+-- src/lib.rt:48:1
+same-length-4 : tie.Need-same-length-4
+same-length-4 c = search needs
+
+-- src/lib.rt:48:1
+returns-2 : tie.Need-returns-2
+returns-2 c =
+    let a = c .before .before .before .before .before .before .before .before .before .before .before .args in
+    let b = c .before .before .before .before .before .before .before .before in
+    c .before .before .before .before .close2 .ensures ∙ close-reading (a .s) (a .frag .now) (a .held .now) (sym (b .in-building .ensures) ∙ c .before .before .before .before .before .before .before .if1 .left)
+
+pub close-spec : {M : Type 1} → statement M
+close-spec =
+    tie.close
+    (tie.spec
+    in-building-requires
+    close-requires
+    close-requires-2
+    same-length
+    same-length-2
+    returns
+    same-length-3
+    same-length-4
+    returns-2)
