@@ -10,24 +10,16 @@ use lib.Dec.{T, ltb, eqb}
 use Rattle.base.specs.Pick.{pick}
 use Rattle.rules.specs.Links.{Link}
 use Rattle.rules.specs.Search.{first}
-use Rattle.rules.specs.Tables.{Tables, parentOf, rank, noteOf, placed}
+use Rattle.rules.specs.Tables.{Tables, rank, noteOf, placed}
 use Rattle.rules.specs.Building.{Walk, pieces, member, noted, topOf, hang, walked, placePath, placePiece, placePieces, closeBuilding}
 use Rattle.rules.specs.Laws.Facts.{Standing, Loose, Ready, Underway}
-use Rattle.state.specs.Layout.{words, stored, section, linkIn, tablesIn, forestIn, fragOf}
+use Rattle.state.specs.Layout.{words, stored, section, linkIn, forestIn, fragOf}
 use Rattle.state.specs.Test.{allZero}
 use Rattle.state.specs.Call.{fragmentsMost}
 use Rattle.building.specs.Pieces.{Gathered, heldMost, wiped}
-use Rattle.state.specs.declared.State.{State}
-use Rattle.state.specs.declared.Stage.the-variants.{Built}
+use Rattle.building.specs.Telling.{heldTables}
 
--- What the two tables hold of n fragments and the first c held words.
-abbrev pub work : ℕ → ℕ → State
-work n c = record { n = n; k = 0; stage = Built; passes = 0; entries = 0; held = c; crossed = false }
-
-abbrev pub tablesAt : ℕ → ℕ → List ℕ → List ℕ → Tables
-tablesAt n c f h = tablesIn (work n c) f h
-
--- The same with the forest that is saved in sections 8 and 9.
+-- The tables with the forest that is saved in sections 8 and 9.
 unfoldable pub savedAt : ℕ → ℕ → List ℕ → List ℕ → Tables
 savedAt n c f h = record {
   parent = section n 8 f;
@@ -102,16 +94,16 @@ pub record Reachable (n at x deepest : ℕ) (f : List ℕ) : Type 0 where
 -- The walk: what it asks, and what it leaves.
 pub record Walkable (n c top : ℕ) (f h : List ℕ) : Type 0 where
   pub linking : Linking n c f h
-  pub standing : Standing n (tablesAt n c f h)
+  pub standing : Standing n (heldTables n c f h)
   pub top-in : top < n
-  pub top-placed : T (placed (tablesAt n c f h) top)
+  pub top-placed : T (placed (heldTables n c f h) top)
 
 pub record Walks (n c top deepest : ℕ) (f h f′ : List ℕ) : Type 0 where
-  pub tables : tablesAt n c f′ h ≡ walked n top (tablesAt n c f h) .tables
-  pub deep : deepest ≡ walked n top (tablesAt n c f h) .deepest
+  pub tables : heldTables n c f′ h ≡ walked n top (heldTables n c f h) .tables
+  pub deep : deepest ≡ walked n top (heldTables n c f h) .deepest
   pub deep-in : deepest < n
-  pub deep-placed : T (placed (tablesAt n c f′ h) deepest)
-  pub standing : Standing n (tablesAt n c f′ h)
+  pub deep-placed : T (placed (heldTables n c f′ h) deepest)
+  pub standing : Standing n (heldTables n c f′ h)
   pub same-long : length f′ ≡ length f
   -- only sections 0 and 1 change
   pub kept : drop (2 * n) f′ ≡ drop (2 * n) f
@@ -144,41 +136,41 @@ pub record Climbable (n top deepest : ℕ) (f : List ℕ) : Type 0 where
   pub below : rank (forestIn n f) top ≤ rank (forestIn n f) deepest
 
 pub record Climbs (n top deepest : ℕ) (f f′ : List ℕ) : Type 0 where
-  pub tables : (c : ℕ) (h : List ℕ) → tablesAt n c f′ h ≡ tablesAt n c f h
-  pub saved : (c : ℕ) (h : List ℕ) → savedAt n c f′ h ≡ placePath (tablesAt n c f h) (rank (tablesAt n c f h) deepest - rank (tablesAt n c f h) top) deepest (savedAt n c f h)
+  pub tables : (c : ℕ) (h : List ℕ) → heldTables n c f′ h ≡ heldTables n c f h
+  pub saved : (c : ℕ) (h : List ℕ) → savedAt n c f′ h ≡ placePath (heldTables n c f h) (rank (heldTables n c f h) deepest - rank (heldTables n c f h) top) deepest (savedAt n c f h)
   pub beside : Beside n f f′
 
 -- A piece is placed from its top.
 pub record Hanging (n c top note : ℕ) (f h : List ℕ) : Type 0 where
   pub wide : Wide n f
   pub there : c ≤ length h
-  pub standing : Standing n (tablesAt n c f h)
+  pub standing : Standing n (heldTables n c f h)
   pub note-in : note ≤ n
-  pub ready : Ready n top (hang top note (tablesAt n c f h))
+  pub ready : Ready n top (hang top note (heldTables n c f h))
 
 abbrev pub walkOf : (n top note : ℕ) → Tables → Walk
 walkOf n top note t = walked n top (hang top note t)
 
 pub record PlacesPath (n c top note : ℕ) (f h f′ : List ℕ) : Type 0 where
-  pub tables : tablesAt n c f′ h ≡
-      placePath (walkOf n top note (tablesAt n c f h) .tables)
-      (rank (walkOf n top note (tablesAt n c f h) .tables) (walkOf n top note (tablesAt n c f h) .deepest) - rank (walkOf n top note (tablesAt n c f h) .tables) top)
-      (walkOf n top note (tablesAt n c f h) .deepest) (tablesAt n c f h)
+  pub tables : heldTables n c f′ h ≡
+      placePath (walkOf n top note (heldTables n c f h) .tables)
+      (rank (walkOf n top note (heldTables n c f h) .tables) (walkOf n top note (heldTables n c f h) .deepest) - rank (walkOf n top note (heldTables n c f h) .tables) top)
+      (walkOf n top note (heldTables n c f h) .deepest) (heldTables n c f h)
   pub beside : Beside n f f′
 
 pub record PlacesWhole (n c top note : ℕ) (f h f′ : List ℕ) : Type 0 where
-  pub tables : tablesAt n c f′ h ≡ walkOf n top note (tablesAt n c f h) .tables
+  pub tables : heldTables n c f′ h ≡ walkOf n top note (heldTables n c f h) .tables
   pub beside : Beside n f f′
 
 -- The close comes to the piece p.
 pub record Due (n c p : ℕ) (f h : List ℕ) : Type 0 where
   pub noting : Noting n f
   pub there : c ≤ length h
-  pub standing : Standing n (tablesAt n c f h)
-  pub ready : Ready n (topOf n (tablesAt n c f h) (labelsIn n f) p) (hang (topOf n (tablesAt n c f h) (labelsIn n f) p) (noted (tablesAt n c f h) (labelsIn n f) p n) (tablesAt n c f h))
+  pub standing : Standing n (heldTables n c f h)
+  pub ready : Ready n (topOf n (heldTables n c f h) (labelsIn n f) p) (hang (topOf n (heldTables n c f h) (labelsIn n f) p) (noted (heldTables n c f h) (labelsIn n f) p n) (heldTables n c f h))
 
 pub record PlacesPiece (n c p : ℕ) (f h f′ : List ℕ) : Type 0 where
-  pub tables : tablesAt n c f′ h ≡ placePiece n (labelsIn n f) p (tablesAt n c f h)
+  pub tables : heldTables n c f′ h ≡ placePiece n (labelsIn n f) p (heldTables n c f h)
   pub beside : Beside n f f′
 
 -- Labels, from pieces that stand gathered.
@@ -201,11 +193,11 @@ pub record Closable (n c : ℕ) (f h : List ℕ) : Type 0 where
   pub wide : Wide n f
   pub there : c ≤ length h
   pub room : ℕ
-  pub underway : Underway n room (tablesAt n c f h)
-  pub labels : labelsIn n f ≡ pieces n (tablesAt n c f h .held)
+  pub underway : Underway n room (heldTables n c f h)
+  pub labels : labelsIn n f ≡ pieces n (heldTables n c f h .held)
 
 pub record PlacesAll (n c : ℕ) (f h f′ : List ℕ) : Type 0 where
-  pub tables : tablesAt n c f′ h ≡ placePieces n (labelsIn n f) n (tablesAt n c f h)
+  pub tables : heldTables n c f′ h ≡ placePieces n (labelsIn n f) n (heldTables n c f h)
   pub beside : Beside n f f′
 
 -- The pass ends.
@@ -215,9 +207,9 @@ pub record Endable (n c : ℕ) (f h : List ℕ) : Type 0 where
   pub few : c ≤ heldMost
   pub blank : T (allZero (take ((words - stored) * n) (drop (stored * n) f)))
   pub room : ℕ
-  pub underway : Underway n room (tablesAt n c f h)
+  pub underway : Underway n room (heldTables n c f h)
 
 pub record EndsPass (n c : ℕ) (f h f′ h′ : List ℕ) : Type 0 where
   pub same-long : length f′ ≡ length f
-  pub frag : f′ ≡ fragOf n (closeBuilding n (tablesAt n c f h)) f
+  pub frag : f′ ≡ fragOf n (closeBuilding n (heldTables n c f h)) f
   pub held : h′ ≡ wiped 0 c h

@@ -7,14 +7,15 @@ ghost use Rattle.state.specs.Test.{isBuilding};
 ghost use Rattle.state.specs.Close.{closeIn};
 ghost use Rattle.state.specs.Told.{closedTold};
 ghost use Rattle.building.specs.Closing.{Wide, Labelable, Labels, Closable, PlacesAll, Endable, EndsPass, dueAt};
-use numbers::Refusal;
-use state::State;
-use state::Stage;
-use state::Closed;
 use crate::head::head;
-use crate::words::wipe;
-use crate::pieces::{find, gather};
 use crate::path::place_piece;
+use crate::pieces::find;
+use crate::pieces::gather;
+use crate::words::wipe;
+use numbers::Refusal;
+use state::Closed;
+use state::Stage;
+use state::State;
 
 // Every fragment's label is the smallest member of its piece.
 fn label_all(frag: &mut [u32], n: usize)
@@ -85,6 +86,7 @@ pub(crate) fn all_placed(frag: &[u32], n: usize) -> bool
 pub fn close(s: State, frag: &mut [u32], held: &mut [u32]) -> Closed
     ensures { λ r. ⌜ closedTold s r (now (frag .exit)) (now (held .exit)) ≡ closeIn isBuilding s (now (frag .entry)) (now (held .entry)) ⌝ }
 {
+    let passes = s.passes;
     let refusal = head(s, frag, held);
     if refusal != 0 {
         return Closed::Refused(Refusal {
@@ -94,13 +96,13 @@ pub fn close(s: State, frag: &mut [u32], held: &mut [u32]) -> Closed
     }
     let n = s.n;
     end_pass(frag, held, n, s.held);
-    let passes = s.passes + 1;
+    let counted = passes + 1;
     if all_placed(frag, n) {
         return Closed::Done(State {
             n: n,
             k: s.k,
             stage: Stage::Built,
-            passes: passes,
+            passes: counted,
             entries: 0,
             held: 0,
             crossed: false,
@@ -110,7 +112,7 @@ pub fn close(s: State, frag: &mut [u32], held: &mut [u32]) -> Closed
         n: n,
         k: s.k,
         stage: Stage::Building,
-        passes: passes,
+        passes: counted,
         entries: 0,
         held: 0,
         crossed: false,

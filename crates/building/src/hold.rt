@@ -4,10 +4,11 @@ ghost use Prim.Native.Nat.{_<_};
 ghost use Rattle.rules.specs.Building.{holdLink};
 ghost use Rattle.state.specs.Layout.{radix, wordOf};
 ghost use Rattle.building.specs.Telling.{heldTables, Leaves, Sized, roomAt, Asked, MayHold, Holdable, Holds, Between};
-use crate::words::RADIX;
 use crate::links::is_among;
-use crate::pieces::{find, join};
+use crate::pieces::find;
+use crate::pieces::join;
 use crate::tables::wide;
+use crate::words::RADIX;
 
 // The word of a held link.
 fn word(a: usize, b: usize) -> u32
@@ -53,7 +54,15 @@ fn hold(frag: &mut [u32], held: &mut [u32], n: usize, count: usize, a: usize, b:
 }
 
 // A link between two unplaced fragments. Returns how many links are held now.
-pub(crate) fn hold_link(frag: &mut [u32], held: &mut [u32], n: usize, k: usize, count: usize, a: usize, b: usize) -> usize
+pub(crate) fn hold_link(
+    frag: &mut [u32],
+    held: &mut [u32],
+    n: usize,
+    k: usize,
+    count: usize,
+    a: usize,
+    b: usize,
+) -> usize
     requires { ⌜ Between n k count a b (now frag) (now held) ⌝ }
     ensures { λ r. ⌜ Leaves n k count (now (frag .entry)) (now (held .entry)) r (now (frag .exit)) (now (held .exit)) (holdLink n k a b (heldTables n count (now (frag .entry)) (now (held .entry)))) ⌝ }
 {

@@ -1,9 +1,12 @@
 // Placing a piece: the whole walk, or only the path to its deepest member, with the forest saved in sections 8 and 9 meanwhile.
 ghost use mathlib.Core.Path.{_≡_};
-ghost use Prim.Native.Nat.{_<_, _≤_};
+ghost use Prim.Native.Nat.{_<_};
 ghost use Rattle.building.specs.Closing.{Wide, Copyable, Copies, keptAt, Climbable, Climbs, Hanging, PlacesPath, PlacesWhole, Due, PlacesPiece};
-use crate::choose::{best_note, top_of, is_lost};
-use crate::walk::{hang, walk};
+use crate::choose::best_note;
+use crate::choose::is_lost;
+use crate::choose::top_of;
+use crate::walk::hang;
+use crate::walk::walk;
 
 // m words are copied from one place to another, apart from it.
 fn copy(words: &mut [u32], from: usize, to: usize, m: usize)

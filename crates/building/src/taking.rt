@@ -3,14 +3,14 @@ ghost use mathlib.Core.Path.{_≡_};
 ghost use Rattle.state.specs.Test.{isBuilding};
 ghost use Rattle.state.specs.Take.{takeIn};
 ghost use Rattle.state.specs.Told.{takenTold};
-use lists::Scanned;
-use numbers::Refusal;
-use state::State;
-use state::Stage;
-use state::Taken;
 use crate::head::head;
 use crate::tables::wide;
 use crate::tell::tell_block;
+use lists::Scanned;
+use numbers::Refusal;
+use state::Stage;
+use state::State;
+use state::Taken;
 
 // The links of a block are told by the building rules. The block is scanned first, so that nothing of a refused one is kept.
 pub fn take(s: State, frag: &mut [u32], held: &mut [u32], block: &[u8]) -> Taken

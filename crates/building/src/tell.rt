@@ -2,12 +2,13 @@
 ghost use mathlib.Core.Path.{_≡_};
 ghost use Rattle.rules.specs.Building.{buildLink};
 ghost use Rattle.building.specs.Telling.{heldTables, Leaves, Ends, Telling, Notable, noting, Rest, Tells, Tellable, Told};
-use lists::Link;
 use crate::choose::better_note;
 use crate::hold::hold_link;
 use crate::pieces::gather;
-use crate::tables::{rank_at, note_at};
+use crate::tables::note_at;
+use crate::tables::rank_at;
 use crate::words::wipe;
+use lists::Link;
 
 // A link from unplaced u to placed p: the better note stays.
 fn note_link(frag: &mut [u32], n: usize, u: usize, p: usize)
@@ -20,7 +21,15 @@ fn note_link(frag: &mut [u32], n: usize, u: usize, p: usize)
 }
 
 // One link, by which of its ends are placed. Returns how many links are held now.
-fn build_link(frag: &mut [u32], held: &mut [u32], n: usize, k: usize, count: usize, a: usize, b: usize) -> usize
+fn build_link(
+    frag: &mut [u32],
+    held: &mut [u32],
+    n: usize,
+    k: usize,
+    count: usize,
+    a: usize,
+    b: usize,
+) -> usize
     requires { ⌜ Telling n k count (now frag) (now held) × Ends n a b ⌝ }
     ensures { λ r. ⌜ Leaves n k count (now (frag .entry)) (now (held .entry)) r (now (frag .exit)) (now (held .exit)) (buildLink n k (heldTables n count (now (frag .entry)) (now (held .entry))) (a, b)) ⌝ }
 {
@@ -39,7 +48,15 @@ fn build_link(frag: &mut [u32], held: &mut [u32], n: usize, k: usize, count: usi
 }
 
 // The links of a block that was scanned, one after another. Returns how many links are held now.
-fn tell_links(frag: &mut [u32], held: &mut [u32], n: usize, k: usize, first: usize, entries: u32, block: &[u8]) -> usize
+fn tell_links(
+    frag: &mut [u32],
+    held: &mut [u32],
+    n: usize,
+    k: usize,
+    first: usize,
+    entries: u32,
+    block: &[u8],
+) -> usize
     requires { ⌜ Telling n k first (now frag) (now held) × Rest n entries (now block) 0 ⌝ }
     ensures { λ r. ⌜ Tells n k first entries (now (block .entry)) (now (frag .entry)) (now (held .entry)) r (now (frag .exit)) (now (held .exit)) ⌝ }
 {
@@ -62,7 +79,15 @@ fn tell_links(frag: &mut [u32], held: &mut [u32], n: usize, k: usize, first: usi
 }
 
 // The links of a block that was scanned, with their pieces in scratch meanwhile. Returns how many links are held now.
-pub(crate) fn tell_block(frag: &mut [u32], held: &mut [u32], n: usize, k: usize, count: usize, entries: u32, block: &[u8]) -> usize
+pub(crate) fn tell_block(
+    frag: &mut [u32],
+    held: &mut [u32],
+    n: usize,
+    k: usize,
+    count: usize,
+    entries: u32,
+    block: &[u8],
+) -> usize
     requires { ⌜ Tellable n k count (now frag) (now held) × Rest n entries (now block) 0 ⌝ }
     ensures { λ r. ⌜ Told n k count entries (now (block .entry)) (now (frag .entry)) (now (held .entry)) r (now (frag .exit)) (now (held .exit)) ⌝ }
 {

@@ -3,8 +3,10 @@ ghost use mathlib.Core.Path.{_≡_};
 ghost use Prim.Native.Nat.{_<_, _≤_};
 ghost use lib.ListN.{length};
 ghost use Rattle.rules.specs.Building.{nextOf};
-ghost use Rattle.building.specs.Closing.{Wide, Linking, tablesAt, otherEnd, Nearer, putAt, hungAt, Hangable, Walkable, Walks, Reachable, deeper, reachedAt};
-use crate::words::{low_end, high_end};
+ghost use Rattle.building.specs.Closing.{Wide, Linking, otherEnd, Nearer, putAt, hungAt, Hangable, Walkable, Walks, Reachable, deeper, reachedAt};
+ghost use Rattle.building.specs.Telling.{heldTables};
+use crate::words::high_end;
+use crate::words::low_end;
 
 // The other end of the held link i where it is one of v's; n where it is not.
 fn other_end(held: &[u32], i: usize, n: usize, v: usize) -> usize
@@ -39,7 +41,7 @@ fn nearer(frag: &[u32], n: usize, x: usize, best: usize) -> usize
 // The smallest unplaced neighbour of v along the held links; n where there is none.
 fn next_of(frag: &[u32], held: &[u32], n: usize, count: usize, v: usize) -> usize
     requires { ⌜ Linking n count (now frag) (now held) ⌝ }
-    ensures { λ r. ⌜ r ≡ nextOf n (tablesAt n count (now (frag .entry)) (now (held .entry))) v ⌝ }
+    ensures { λ r. ⌜ r ≡ nextOf n (heldTables n count (now (frag .entry)) (now (held .entry))) v ⌝ }
 {
     let mut best = n;
     let mut i = 0;

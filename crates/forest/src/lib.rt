@@ -4,7 +4,6 @@ ghost use Rattle.state.specs.Test.{isBuilding};
 ghost use Rattle.state.specs.Take.{takeCall};
 ghost use Rattle.state.specs.Close.{closeCall};
 ghost use Rattle.state.specs.Told.{takenTold, closedTold};
-
 pub use numbers::Refusal;
 pub use reading::adopt;
 pub use reading::cut;

@@ -8,18 +8,17 @@ use mathlib.Core.Logic.{_⊎_, inl, inr}
 use native.Mathlib.Omega.{arith}
 use native.Mathlib.Decide.{ℕ-discrete, decLt}
 use native.Mathlib.Numerals.{add-one}
-use lib.Dec.{T, ltb, eqb, eqb→eq, lt→ltb, ltb→lt}
+use lib.Dec.{T, eqb, eqb→eq, lt→ltb, ltb→lt}
 use lib.ListN.{getD}
-use Rattle.base.specs.Pick.{pick, pick-true, pick-false, pick-all, tests}
+use Rattle.base.specs.Pick.{pick-true, pick-false, tests}
 use Rattle.base.specs.Truth.{and-intro, and-l, and-r, T-true, T-false, true-T, false-T, eq→eqb}
-use Rattle.rules.specs.Search.{first, some}
+use Rattle.rules.specs.Search.{first}
 use Rattle.rules.specs.Tables.{Tables, rank, noteOf, markOf}
 use Rattle.rules.specs.Building.{better, noted, member, lost, topOf}
 use Rattle.rules.specs.Laws.Search.{first-le, first-passes, first-least, some-intro, some-elim}
-use Rattle.rules.specs.Laws.Pieces.{member-intro, member-elim}
-use Rattle.state.specs.Layout.{section, forestIn, bare, tablesIn}
+use Rattle.state.specs.Layout.{section, forestIn, bare}
 use Rattle.state.specs.Laws.Layout.{section-at, level-word, note-word, mark-word}
-use Rattle.building.specs.Closing.{firstNoted, topBy, tablesAt}
+use Rattle.building.specs.Closing.{firstNoted, topBy}
 
 -- The answers of the ladder of two notes.
 module _ (t : Tables) (old new : ℕ) where
@@ -69,11 +68,11 @@ module _ (t : Tables) (l : List ℕ) (p : ℕ) where
   unfolding noted
   noted-none = refl
 
-  pub noted-member : (v : ℕ) → true ≡ member l p v → better t (noted t l p v) (noteOf t v) ≡ noted t l p (v + 1)
+  noted-member : (v : ℕ) → true ≡ member l p v → better t (noted t l p v) (noteOf t v) ≡ noted t l p (v + 1)
   unfolding noted
   noted-member v e = rw (add-one, ← e) (sym (pick-true _ _))
 
-  pub noted-other : (v : ℕ) → false ≡ member l p v → noted t l p v ≡ noted t l p (v + 1)
+  noted-other : (v : ℕ) → false ≡ member l p v → noted t l p v ≡ noted t l p (v + 1)
   unfolding noted
   noted-other v e = rw (add-one, ← e) (sym (pick-false _ _))
 

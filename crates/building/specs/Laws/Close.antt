@@ -1,31 +1,30 @@
 -- Close in Building: its refusal, what its end asks, and what it leaves.
 -- Assumes nothing.
-use Prim.Native.Nat.{ℕ, suc, _+_, _-_, _*_, _≤_, _<_}
+use Prim.Native.Nat.{ℕ, suc, _+_, _-_, _*_, _≤_}
 use mathlib.Core.Path.{_≡_, refl, sym, ap, _∙_}
-use mathlib.Core.Bool.{Bool, true, false}
-use mathlib.Core.List.{List, [], _++_}
+use mathlib.Core.Bool.{true, false}
+use mathlib.Core.List.{List, _++_}
 use native.Mathlib.Omega.{arith}
 use native.Mathlib.Nat.{mul-le-mul}
 use native.Mathlib.Numerals.{add-one}
-use lib.Dec.{T}
 use lib.ListN.{length, take, drop, replicate, length-take}
 use lib.Seq.{drop-at}
-use Rattle.base.specs.Pick.{pick, pick-true, pick-false, tests}
+use Rattle.base.specs.Pick.{pick-true, pick-false, tests}
 use Rattle.base.specs.Truth.{true-T}
 use Rattle.base.specs.Answer.{gives}
 use Rattle.rules.specs.Search.{every}
 use Rattle.rules.specs.Tables.{Tables, placed, cleared}
-use Rattle.rules.specs.Building.{pieces, placePieces, closeBuilding, done}
+use Rattle.rules.specs.Building.{closeBuilding, done}
 use Rattle.rules.specs.Laws.Facts.{Standing, Underway}
 use Rattle.rules.specs.Laws.Search.{count-le}
 use Rattle.rules.specs.Laws.Tables.{SameForest, same-placed, standing-cleared}
 use Rattle.rules.specs.Laws.Links.{linked-nil}
 use Rattle.rules.specs.Laws.Close.{closing}
 use Rattle.rules.specs.Laws.CloseAny.{learnt-shown}
-use Rattle.state.specs.Layout.{radix, tablesIn, forestIn, fragOf, heldOf}
+use Rattle.state.specs.Layout.{tablesIn, forestIn, fragOf, heldOf}
 use Rattle.state.specs.Test.{isBuilding}
 use Rattle.state.specs.Call.{headRefusal, headed, moved, leaves}
-use Rattle.state.specs.Close.{Ending, more, whole, endBuilding, closeIn}
+use Rattle.state.specs.Close.{more, whole, endBuilding, closeIn}
 use Rattle.state.specs.Told.{closedTold}
 use Rattle.state.specs.Laws.Lists.{zeros, zeros-between}
 use Rattle.state.specs.Laws.Layout.{tables-state}
@@ -36,7 +35,8 @@ use Rattle.state.specs.declared.Stage.{Stage}
 use Rattle.state.specs.declared.Stage.the-variants.{Building, Built}
 use Rattle.state.specs.declared.Closed.the-variants.{More, Done, Refused}
 use Rattle.building.specs.Pieces.{wiped}
-use Rattle.building.specs.Closing.{Wide, tablesAt, work, Endable, EndsPass}
+use Rattle.building.specs.Closing.{Endable, EndsPass}
+use Rattle.building.specs.Telling.{heldTables, holds}
 use Rattle.building.specs.Laws.Take.{Passed, passed}
 
 -- The held words cleared, where those behind them are 0 as far as the table goes.
@@ -64,8 +64,8 @@ module _ (s : State) (f h : List ℕ) where
     in-building : isBuilding (s .stage) ≡ true
     in-building = ap isBuilding (P .stage)
 
-    same-tables : tablesAt (s .n) (s .held) f h ≡ tablesIn s f h
-    same-tables = tables-state s (work (s .n) (s .held)) f h refl refl (sym (P .found .agrees .uncrossed (λ x. (rw (P .stage) at x))))
+    same-tables : heldTables (s .n) (s .held) f h ≡ tablesIn s f h
+    same-tables = tables-state s (holds (s .n) (s .held)) f h refl refl (sym (P .found .agrees .uncrossed (λ x. (rw (P .stage) at x))))
 
     on-way : Underway (s .n) (s .k) (tablesIn s f h)
     on-way = underway s (tablesIn s f h) (P .found .agrees) (true-T (isBuilding (s .stage)) in-building)
@@ -119,7 +119,6 @@ module _ (s : State) (f h : List ℕ) where
       moved-is : (g : Stage) → ended g ≡ moved g (suc (s .passes)) 0 t s
       unfolding moved closeBuilding cleared
       moved-is g = ap (λ (p : ℕ). record { n = s .n; k = s .k; stage = g; passes = p; entries = 0; held = 0; crossed = false }) (add-one (s .passes))
-
 
       close-on : endBuilding s t f h ≡ closeIn isBuilding s f h
       unfolding closeIn headed

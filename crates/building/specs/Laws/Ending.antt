@@ -1,29 +1,27 @@
 -- The end of a pass: the labels, the pieces placed, and all but the forest cleared.
 -- Assumes nothing.
-use Prim.Native.Nat.{ℕ, zero, suc, _+_, _-_, _*_, _≤_, _<_}
-use mathlib.Core.Path.{_≡_, refl, sym, ap, _∙_, subst}
-use mathlib.Core.Bool.{Bool, true, false, _&&_, not}
-use mathlib.Core.List.{List, [], _∷_, _++_, map, append-assoc}
-use mathlib.Core.Logic.{_⊎_, inl, inr, _≢_}
+use Prim.Native.Nat.{ℕ, suc, _+_, _-_, _*_, _≤_, _<_}
+use mathlib.Core.Path.{_≡_, refl, sym, ap, _∙_}
+use mathlib.Core.Bool.{true, false}
+use mathlib.Core.List.{List, [], _++_, map, append-assoc}
 use native.Mathlib.Omega.{arith}
 use native.Mathlib.Decide.{ℕ-discrete}
-use lib.Dec.{T, eqb, ltb}
 use lib.ListN.{length, getD, set, take, drop, replicate, length-set}
 use lib.Seq.{ext-getD, getD-set-same, getD-set-other, drop-drop, take-add}
 use Rattle.base.specs.Truth.{T-true, T-false}
-use Rattle.rules.specs.Links.{Link, linked}
+use Rattle.rules.specs.Links.{Link}
 use Rattle.rules.specs.Search.{every}
-use Rattle.rules.specs.Tables.{Tables, rank, placed, cleared}
+use Rattle.rules.specs.Tables.{Tables, placed, cleared}
 use Rattle.rules.specs.Building.{pieces, placePieces, closeBuilding, done}
-use Rattle.rules.specs.Laws.Facts.{Underway}
 use Rattle.rules.specs.Laws.Search.{every-at, every-intro}
 use Rattle.rules.specs.Laws.Pieces.{label-in, pieces-length}
 use Rattle.rules.specs.Laws.Tables.{placed-rank, rank-placed}
-use Rattle.state.specs.Layout.{words, stored, section, linkIn, tablesIn, forestIn, fragOf, bare}
+use Rattle.state.specs.Layout.{words, section, linkIn, tablesIn, forestIn, fragOf, bare}
 use Rattle.state.specs.Laws.Layout.{section-length, section-at, level-word, tables-frag-same}
 use Rattle.state.specs.Laws.Lists.{zeros}
 use Rattle.building.specs.Pieces.{Pointing, Gathered, LabelIs, Gatherable, Gathers, wiped}
-use Rattle.building.specs.Closing.{Wide, tablesAt, work, labelsIn, Labelable, Labels, Closable, PlacesAll, Endable, EndsPass}
+use Rattle.building.specs.Closing.{labelsIn, Labelable, Labels, Closable, PlacesAll, Endable, EndsPass}
+use Rattle.building.specs.Telling.{heldTables, holds}
 use Rattle.building.specs.Laws.Scratch.{wiped-length}
 use Rattle.building.specs.Laws.Saving.{wide-by, section-by, drop-by}
 
@@ -79,10 +77,10 @@ module _ (n : ℕ) (f₀ : List ℕ) (v : ℕ) (f : List ℕ) (W : Labelable n f
   labelling-all e = record {
     same-long = L .same-long;
     found = λ held G.
-      let long : suc 7 * n ≤ length f = omega (arith, L .same-long, W .gathered .pointing .long) in
-      let k = section-length n f 7 long in
-      ext-getD 0 (labelsIn n f) (pieces n held) (k ∙ sym (pieces-length n held)) (λ i g.
-      sym (section-at n f 7 (7 * n + i) i refl (omega arith)) ∙ L .found held G i (omega arith));
+        let long : suc 7 * n ≤ length f = omega (arith, L .same-long, W .gathered .pointing .long) in
+        let k = section-length n f 7 long in
+        ext-getD 0 (labelsIn n f) (pieces n held) (k ∙ sym (pieces-length n held)) (λ i g.
+        sym (section-at n f 7 (7 * n + i) i refl (omega arith)) ∙ L .found held G i (omega arith));
     before = L .before;
     behind = L .behind;
   }
@@ -97,7 +95,7 @@ take-two n f =
     ap (λ (i : ℕ). take i f) e ∙ take-add n n f ∙ ap (λ (r : List ℕ). take n f ++ take n r) (ap (λ (i : ℕ). drop i f) a) ∙ ap (λ (i : ℕ). take n (drop i f) ++ take n (drop (1 * n) f)) b
 
 -- A table of which all but the forest is cleared.
-cleared-laid : (n c : ℕ) (f₀ f h : List ℕ) → drop (words * n) f ≡ drop (words * n) f₀ → wiped (2 * n) (words * n) f ≡ fragOf n (cleared n (tablesAt n c f h)) f₀
+cleared-laid : (n c : ℕ) (f₀ f h : List ℕ) → drop (words * n) f ≡ drop (words * n) f₀ → wiped (2 * n) (words * n) f ≡ fragOf n (cleared n (heldTables n c f h)) f₀
 unfolding wiped fragOf cleared tablesIn
 cleared-laid n c f₀ f h e =
     let m : words * n - 2 * n ≡ 14 * n = omega arith in
@@ -130,13 +128,13 @@ module _ (n c : ℕ) (f h : List ℕ) (W : Endable n c f h) where
       same-section : (j : ℕ) → suc j * n ≤ 7 * n → section n j f₂ ≡ section n j f₁
       same-section j l = section-by n j j f₂ f₁ (omega (arith, W .wide .long, long-two)) (omega (arith, W .wide .long, G .kept .same-length)) (λ v g. L .before (j * n + v) (omega arith))
 
-      tables-two : tablesAt n c f₂ h ≡ tablesAt n c f h
+      tables-two : heldTables n c f₂ h ≡ heldTables n c f h
       unfolding tablesIn
       tables-two =
           rw (same-section 0 (omega arith), same-section 1 (omega arith), same-section 2 (omega arith), same-section 3 (omega arith))
-          (tables-frag-same (work n c) f f₁ h (G .kept .before))
+          (tables-frag-same (holds n c) f f₁ h (G .kept .before))
 
-      labels-two : labelsIn n f₂ ≡ pieces n (tablesAt n c f h .held)
+      labels-two : labelsIn n f₂ ≡ pieces n (heldTables n c f h .held)
       unfolding tablesIn
       labels-two = L .found (map linkIn (take c h)) (G .gathered)
 
@@ -157,10 +155,10 @@ module _ (n c : ℕ) (f h : List ℕ) (W : Endable n c f h) where
             ∙ drop-by (words * n) f₂ f₁ (L .same-long) (λ i l. L .behind i (omega arith))
             ∙ rw (e, ← drop-drop (9 * n) (7 * n) f₁, ← drop-drop (9 * n) (7 * n) f, G .kept .behind)
 
-        pub end-long : words * n ≤ length f₃
+        end-long : words * n ≤ length f₃
         end-long = omega (arith, W .wide .long, P .beside .same-long ∙ long-two)
 
-        placed-three : tablesAt n c f₃ h ≡ placePieces n (pieces n (tablesAt n c f h .held)) n (tablesAt n c f h)
+        placed-three : heldTables n c f₃ h ≡ placePieces n (pieces n (heldTables n c f h .held)) n (heldTables n c f h)
         placed-three = P .tables ∙ rw (tables-two, labels-two)
 
         pub end-laid : (f₄ h₄ : List ℕ) → f₄ ≡ wiped (2 * n) (words * n) f₃ → h₄ ≡ wiped 0 c h → EndsPass n c f h f₄ h₄

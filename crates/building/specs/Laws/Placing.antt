@@ -1,51 +1,47 @@
 -- The pieces placed one after another, by smallest member, and what is cleared when the pass ends.
 -- Assumes nothing.
-use Prim.Native.Nat.{ℕ, zero, suc, _+_, _-_, _*_, _≤_, _<_}
-use mathlib.Core.Path.{_≡_, refl, sym, ap, _∙_, subst}
-use mathlib.Core.Bool.{Bool, true, false, _&&_, not}
-use mathlib.Core.List.{List, [], _∷_, _++_, map, append-assoc}
-use mathlib.Core.Logic.{_⊎_, inl, inr, _≢_}
+use Prim.Native.Nat.{ℕ, zero, suc, _+_, _*_, _≤_, _<_}
+use mathlib.Core.Path.{_≡_, refl, sym, ap, _∙_}
+use mathlib.Core.Bool.{true, false, _&&_, not}
+use mathlib.Core.List.{List, []}
 use native.Mathlib.Omega.{arith}
-use native.Mathlib.Decide.{ℕ-discrete, decLt}
 use native.Mathlib.Numerals.{add-one}
 use lib.Dec.{T, eqb, T-not}
-use lib.ListN.{length, getD, set, take, drop, replicate, length-set}
-use lib.Seq.{ext-getD, getD-set-same, getD-set-other}
-use Rattle.base.specs.Pick.{pick, pick-true, pick-false}
+use lib.ListN.{getD}
+use Rattle.base.specs.Pick.{pick-true, pick-false}
 use Rattle.base.specs.Truth.{and-l, and-r, true-T, T-true, T-false}
-use Rattle.rules.specs.Links.{Link, linked}
-use Rattle.rules.specs.Tables.{Tables, parentOf, rank, noteOf, markOf, placed, cleared}
-use Rattle.rules.specs.Building.{Walk, pieces, member, lost, noted, topOf, hang, walked, placePath, placeWalk, placePiece, placeFrom, placePieces, closeBuilding}
-use Rattle.rules.specs.Laws.Facts.{Standing, Loose, Underway, Ready}
-use Rattle.rules.specs.Laws.Pieces.{Inside, label-in, pieces-length, member-elim}
+use Rattle.rules.specs.Tables.{Tables, noteOf, placed, cleared}
+use Rattle.rules.specs.Building.{pieces, member, lost, noted, topOf, placeWalk, placePiece, placeFrom, placePieces}
+use Rattle.rules.specs.Laws.Facts.{Loose}
+use Rattle.rules.specs.Laws.Pieces.{member-elim}
 use Rattle.rules.specs.Laws.Tables.{same-noteOf, placed-loose, rank-placed}
-use Rattle.rules.specs.Laws.Partial.{Of, label, Closing}
+use Rattle.rules.specs.Laws.Partial.{Of, Closing}
 use Rattle.rules.specs.Laws.Close.{lost-same, not-placed, ready-at, closing}
 use Rattle.rules.specs.Laws.CloseAny.{shown, learnt-shown}
-use Rattle.state.specs.Layout.{words, stored, section, linkIn, tablesIn, forestIn, fragOf, bare}
+use Rattle.state.specs.Layout.{words, tablesIn, forestIn, bare}
 use Rattle.state.specs.Laws.Layout.{level-word}
-use Rattle.building.specs.Pieces.{Pointing, Gathered, LabelIs, Gatherable, Gathers, wiped}
-use Rattle.building.specs.Closing.{Wide, Noting, tablesAt, labelsIn, topBy, dueAt, Beside, Hanging, PlacesPath, PlacesWhole, Due, PlacesPiece, Labelable, Labels, Closable, PlacesAll, Endable}
+use Rattle.building.specs.Closing.{labelsIn, topBy, dueAt, Beside, Hanging, PlacesPath, PlacesWhole, Due, PlacesPiece, Closable, PlacesAll}
+use Rattle.building.specs.Telling.{heldTables}
 use Rattle.building.specs.Laws.Choosing.{label-word, noted-same, top-by}
 use Rattle.building.specs.Laws.Walking.{bare-placed}
-use Rattle.building.specs.Laws.Saving.{wide-by, beside-join, section-by}
+use Rattle.building.specs.Laws.Saving.{wide-by, beside-join}
 
 -- The choices for a piece, by the forest alone, are those of the rules.
 module _ (n c p : ℕ) (f h : List ℕ) (D : Due n c p f h) (note top : ℕ) (en : note ≡ noted (forestIn n f) (labelsIn n f) p n) (et : top ≡ topBy n (forestIn n f) (labelsIn n f) p note) where
-  note-is : note ≡ noted (tablesAt n c f h) (labelsIn n f) p n
+  note-is : note ≡ noted (heldTables n c f h) (labelsIn n f) p n
   unfolding tablesIn
-  note-is = en ∙ noted-same (forestIn n f) (tablesAt n c f h) (labelsIn n f) p n refl refl
+  note-is = en ∙ noted-same (forestIn n f) (heldTables n c f h) (labelsIn n f) p n refl refl
 
-  top-is : top ≡ topOf n (tablesAt n c f h) (labelsIn n f) p
+  top-is : top ≡ topOf n (heldTables n c f h) (labelsIn n f) p
   unfolding tablesIn
-  top-is = et ∙ top-by n (forestIn n f) (tablesAt n c f h) (labelsIn n f) p note refl note-is
+  top-is = et ∙ top-by n (forestIn n f) (heldTables n c f h) (labelsIn n f) p note refl note-is
 
   pub due-hanging : note ≤ n → Hanging n c top note f h
   due-hanging l = record { wide = D .noting .wide; there = D .there; standing = D .standing; note-in = l; ready = rw (top-is, note-is) (D .ready) }
 
-  lost-is : lost n (forestIn n f) (labelsIn n f) p ≡ lost n (tablesAt n c f h) (labelsIn n f) p
+  lost-is : lost n (forestIn n f) (labelsIn n f) p ≡ lost n (heldTables n c f h) (labelsIn n f) p
   unfolding tablesIn
-  lost-is = lost-same n (forestIn n f) (tablesAt n c f h) (labelsIn n f) p refl
+  lost-is = lost-same n (forestIn n f) (heldTables n c f h) (labelsIn n f) p refl
 
   pub piece-path : (f′ : List ℕ) → true ≡ lost n (forestIn n f) (labelsIn n f) p → PlacesPath n c top note f h f′ → PlacesPiece n c p f h f′
   unfolding placePiece placeWalk
@@ -71,7 +67,7 @@ module _ (n p : ℕ) (f : List ℕ) (l : p < n) where
 
 -- The pieces with smallest member below p are placed.
 pub record Placing (n c : ℕ) (f₀ h : List ℕ) (p : ℕ) (f : List ℕ) : Type 0 where
-  pub tables : tablesAt n c f h ≡ placePieces n (labelsIn n f₀) p (tablesAt n c f₀ h)
+  pub tables : heldTables n c f h ≡ placePieces n (labelsIn n f₀) p (heldTables n c f₀ h)
   pub beside : Beside n f₀ f
 
 pub placing-none : (n c : ℕ) (f h : List ℕ) → Placing n c f h 0 f
@@ -82,7 +78,7 @@ pub placing-all : (n c : ℕ) (f₀ h f : List ℕ) → Placing n c f₀ h n f �
 placing-all n c f₀ h f P = record { tables = P .tables; beside = P .beside }
 
 module _ (n c : ℕ) (f₀ h : List ℕ) (p : ℕ) (f : List ℕ) (P : Placing n c f₀ h p f) where
-  due-is : dueAt n p f ≡ (not (placed (placePieces n (labelsIn n f₀) p (tablesAt n c f₀ h)) p) && member (labelsIn n f₀) p p)
+  due-is : dueAt n p f ≡ (not (placed (placePieces n (labelsIn n f₀) p (heldTables n c f₀ h)) p) && member (labelsIn n f₀) p p)
   unfolding dueAt
   due-is = rw (P .beside .labels, bare-placed n c f h p, P .tables)
 
@@ -100,9 +96,9 @@ module _ (n c : ℕ) (f₀ h : List ℕ) (p : ℕ) (f : List ℕ) (P : Placing n
   -- A piece that is due can be placed.
   module _ (W : Closable n c f₀ h) (l : p < n) (e : true ≡ dueAt n p f) where
     abbrev before : Tables
-    before = tablesAt n c f₀ h
+    before = heldTables n c f₀ h
 
-    now-is : tablesAt n c f h ≡ placePieces n (pieces n (before .held)) p before
+    now-is : heldTables n c f h ≡ placePieces n (pieces n (before .held)) p before
     now-is = P .tables ∙ ap (λ (g : List ℕ). placePieces n g p before) (W .labels)
 
     so-far : Closing n (shown before) before p (placePieces n (pieces n (before .held)) p before)

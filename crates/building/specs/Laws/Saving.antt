@@ -1,26 +1,27 @@
 -- The forest saved and brought back, and the path to the deepest member kept meanwhile.
 -- Assumes nothing.
-use Prim.Native.Nat.{ℕ, zero, suc, _+_, _-_, _*_, _≤_, _<_}
-use mathlib.Core.Path.{_≡_, refl, sym, ap, _∙_, subst}
+use Prim.Native.Nat.{ℕ, suc, _+_, _-_, _*_, _≤_, _<_}
+use mathlib.Core.Path.{_≡_, refl, sym, ap, _∙_}
 use mathlib.Core.List.{List, []}
-use mathlib.Core.Logic.{_⊎_, inl, inr}
+use mathlib.Core.Logic.{inl, inr}
 use native.Mathlib.Omega.{arith}
 use native.Mathlib.Decide.{ℕ-discrete}
 use native.Mathlib.Nat.{mul-le-mul-right, zero-add}
 use lib.Dec.{T}
-use lib.ListN.{length, getD, set, take, drop, length-set, length-take, length-drop}
-use lib.Seq.{ext-getD, getD-take, getD-drop, getD-set-same, getD-set-other, drop-set-lt, drop-drop}
+use lib.ListN.{length, getD, set, drop, length-set, length-drop}
+use lib.Seq.{ext-getD, getD-drop, getD-set-same, getD-set-other, drop-set-lt, drop-drop}
 use Rattle.rules.specs.Links.{here}
 use Rattle.rules.specs.Tables.{Tables, parentOf, rank, placed, place}
 use Rattle.rules.specs.Building.{Walk, hang, walked, placePath}
-use Rattle.rules.specs.Laws.Facts.{Standing, Ready, Walked}
+use Rattle.rules.specs.Laws.Facts.{Standing}
 use Rattle.rules.specs.Laws.Kept.{parent-placed}
 use Rattle.rules.specs.Laws.Walk.{walk}
 use Rattle.rules.specs.Laws.Tables.{rank-most}
 use Rattle.state.specs.Layout.{words, section, tablesIn, forestIn}
-use Rattle.state.specs.Laws.Layout.{section-length, section-at, section-set, section-before, section-after, tables-are, parent-word, level-word, store-scratch}
-use Rattle.building.specs.Closing.{Wide, tablesAt, savedAt, work, labelsIn, keptAt, hungAt, Copyable, Copies, Beside, Climbable, Climbs, Hangable, Walkable, Walks, walkOf, PlacesPath, PlacesWhole, Hanging}
-use Rattle.building.specs.Laws.Walking.{bare-standing, bare-rank, bare-placed, hung-tables, hung-kept, hung-long}
+use Rattle.state.specs.Laws.Layout.{section-length, section-at, section-set, section-before, section-after, parent-word, level-word}
+use Rattle.building.specs.Closing.{Wide, savedAt, keptAt, hungAt, Copyable, Copies, Beside, Climbable, Climbs, Hangable, Walkable, Walks, walkOf, PlacesPath, PlacesWhole, Hanging}
+use Rattle.building.specs.Telling.{heldTables, holds}
+use Rattle.building.specs.Laws.Walking.{bare-standing, bare-parent, bare-rank, bare-placed, hung-tables, hung-kept, hung-long}
 
 -- One word more is copied.
 pub copies-none : (from to : ℕ) (l : List ℕ) → Copies from to 0 l l
@@ -48,8 +49,8 @@ pub section-by : (n j i : ℕ) (f g : List ℕ) → suc j * n ≤ length f → s
 section-by n j i f g a b e =
     let l = section-length n f j a in
     ext-getD 0 (section n j f) (section n i g) (l ∙ sym (section-length n g i b)) (λ v h.
-      let k : v < n = omega arith in
-      sym (section-at n f j (j * n + v) v refl k) ∙ e v k ∙ section-at n g i (i * n + v) v refl k)
+    let k : v < n = omega arith in
+    sym (section-at n f j (j * n + v) v refl k) ∙ e v k ∙ section-at n g i (i * n + v) v refl k)
 
 pub drop-by : (m : ℕ) (f g : List ℕ) → length f ≡ length g → ((i : ℕ) → m ≤ i → getD f i 0 ≡ getD g i 0) → drop m f ≡ drop m g
 drop-by m f g l e =
@@ -63,13 +64,13 @@ section-kept n j f f′ e =
     let a : (2 + j) * n ≡ 2 * n + j * n = omega arith in
     rw (a, ← drop-drop (j * n) (2 * n) f′, ← drop-drop (j * n) (2 * n) f, e)
 
-pub beside-low : (n : ℕ) (f f′ : List ℕ) → length f′ ≡ length f → drop (2 * n) f′ ≡ drop (2 * n) f → Beside n f f′
+beside-low : (n : ℕ) (f f′ : List ℕ) → length f′ ≡ length f → drop (2 * n) f′ ≡ drop (2 * n) f → Beside n f f′
 beside-low n f f′ l e = record { same-long = l; labels = section-kept n 5 f f′ e; past = past }
   where
     past : drop (words * n) f′ ≡ drop (words * n) f
     past = let a : words * n ≡ 2 * n + 14 * n = omega arith in rw (a, ← drop-drop (14 * n) (2 * n) f′, ← drop-drop (14 * n) (2 * n) f, e)
 
-pub saved-low : (n c : ℕ) (f f′ h : List ℕ) → drop (2 * n) f′ ≡ drop (2 * n) f → savedAt n c f′ h ≡ savedAt n c f h
+saved-low : (n c : ℕ) (f f′ h : List ℕ) → drop (2 * n) f′ ≡ drop (2 * n) f → savedAt n c f′ h ≡ savedAt n c f h
 unfolding savedAt
 saved-low n c f f′ h e = rw (section-kept n 6 f f′ e, section-kept n 7 f f′ e, section-kept n 0 f f′ e, section-kept n 1 f f′ e)
 
@@ -88,21 +89,21 @@ module _ (n c : ℕ) (f f′ h : List ℕ) (W : Wide n f) (C : Copies 0 (8 * n) 
 
   saved-words : (j : ℕ) → j ≤ 1 → section n (8 + j) f′ ≡ section n j f
   saved-words j l =
-    let g = mul-le-mul-right {m = j} {n = 1} n l in
-    let k : suc (8 + j) * n ≡ 9 * n + j * n = omega arith in
-    section-by n (8 + j) j f′ f (omega (arith, W .long, C .same-long)) (omega (arith, W .long)) (λ v h.
-    let e : (8 + j) * n + v ≡ 8 * n + (j * n + v) = omega arith in
-    ap (λ (i : ℕ). getD f′ i 0) e ∙ C .there (j * n + v) (omega arith) ∙ ap (λ (i : ℕ). getD f i 0) (zero-add (j * n + v)))
+      let g = mul-le-mul-right {m = j} {n = 1} n l in
+      let k : suc (8 + j) * n ≡ 9 * n + j * n = omega arith in
+      section-by n (8 + j) j f′ f (omega (arith, W .long, C .same-long)) (omega (arith, W .long)) (λ v h.
+      let e : (8 + j) * n + v ≡ 8 * n + (j * n + v) = omega arith in
+      ap (λ (i : ℕ). getD f′ i 0) e ∙ C .there (j * n + v) (omega arith) ∙ ap (λ (i : ℕ). getD f i 0) (zero-add (j * n + v)))
 
-  pub saved-tables : tablesAt n c f′ h ≡ tablesAt n c f h
+  pub saved-tables : heldTables n c f′ h ≡ heldTables n c f h
   unfolding tablesIn
   saved-tables = rw (same-below 0 (omega arith), same-below 1 (omega arith), same-below 2 (omega arith), same-below 3 (omega arith))
 
-  pub saved-forest : savedAt n c f′ h ≡ tablesAt n c f h
+  saved-forest : savedAt n c f′ h ≡ heldTables n c f h
   unfolding tablesIn savedAt
   saved-forest = rw (saved-words 0 (omega arith), saved-words 1 (omega arith), same-below 2 (omega arith), same-below 3 (omega arith))
 
-  pub saved-beside : Beside n f f′
+  saved-beside : Beside n f f′
   saved-beside = record { same-long = C .same-long; labels = same-below 7 (omega arith); past = drop-by (words * n) f′ f (C .same-long) (λ i l. C .behind i (omega arith)) }
 
 -- The forest is brought back.
@@ -115,17 +116,17 @@ module _ (n c : ℕ) (f f′ h : List ℕ) (W : Wide n f) (C : Copies (8 * n) 0 
 
   back-words : (j : ℕ) → j ≤ 1 → section n j f′ ≡ section n (8 + j) f
   back-words j l =
-    let g = mul-le-mul-right {m = j} {n = 1} n l in
-    let k : suc (8 + j) * n ≡ 9 * n + j * n = omega arith in
-    section-by n j (8 + j) f′ f (omega (arith, W .long, C .same-long)) (omega (arith, W .long)) (λ v h.
-    let e : (8 + j) * n + v ≡ 8 * n + (j * n + v) = omega arith in
-    ap (λ (i : ℕ). getD f′ i 0) (sym (zero-add (j * n + v))) ∙ C .there (j * n + v) (omega arith) ∙ ap (λ (i : ℕ). getD f i 0) (sym e))
+      let g = mul-le-mul-right {m = j} {n = 1} n l in
+      let k : suc (8 + j) * n ≡ 9 * n + j * n = omega arith in
+      section-by n j (8 + j) f′ f (omega (arith, W .long, C .same-long)) (omega (arith, W .long)) (λ v h.
+      let e : (8 + j) * n + v ≡ 8 * n + (j * n + v) = omega arith in
+      ap (λ (i : ℕ). getD f′ i 0) (sym (zero-add (j * n + v))) ∙ C .there (j * n + v) (omega arith) ∙ ap (λ (i : ℕ). getD f i 0) (sym e))
 
-  pub back-tables : tablesAt n c f′ h ≡ savedAt n c f h
+  back-tables : heldTables n c f′ h ≡ savedAt n c f h
   unfolding tablesIn savedAt
   back-tables = rw (back-words 0 (omega arith), back-words 1 (omega arith), same-behind 2 (omega arith) (omega arith), same-behind 3 (omega arith) (omega arith))
 
-  pub back-beside : Beside n f f′
+  back-beside : Beside n f f′
   back-beside = record { same-long = C .same-long; labels = same-behind 7 (omega arith) (omega arith); past = drop-by (words * n) f′ f (C .same-long) (λ i l. C .behind i (omega arith)) }
 
 -- A fragment is kept.
@@ -144,15 +145,15 @@ module _ (n : ℕ) (f : List ℕ) (v : ℕ) (l : v < n) where
       let k = mul-le-mul-right {m = suc j} {n = 8} n g in
       section-before n _ j (9 * n + v) _ (omega arith) ∙ section-before n f j (8 * n + v) _ (omega arith)
 
-  pub kept-tables : (c : ℕ) (h : List ℕ) → tablesAt n c (keptAt n v f) h ≡ tablesAt n c f h
+  kept-tables : (c : ℕ) (h : List ℕ) → heldTables n c (keptAt n v f) h ≡ heldTables n c f h
   unfolding tablesIn
   kept-tables c h = rw (kept-below 0 (omega arith), kept-below 1 (omega arith), kept-below 2 (omega arith), kept-below 3 (omega arith))
 
-  pub kept-saved : (c : ℕ) (h : List ℕ) → savedAt n c (keptAt n v f) h ≡ place v (parentOf (tablesAt n c f h) v) (rank (tablesAt n c f h) v) (savedAt n c f h)
+  kept-saved : (c : ℕ) (h : List ℕ) → savedAt n c (keptAt n v f) h ≡ place v (parentOf (heldTables n c f h) v) (rank (heldTables n c f h) v) (savedAt n c f h)
   unfolding savedAt place
-  kept-saved c h = rw (kept-parent, kept-level, kept-below 2 (omega arith), kept-below 3 (omega arith), ← parent-word (work n c) f h v l, ← level-word (work n c) f h v l)
+  kept-saved c h = rw (kept-parent, kept-level, kept-below 2 (omega arith), kept-below 3 (omega arith), ← parent-word (holds n c) f h v l, ← level-word (holds n c) f h v l)
 
-  pub kept-beside : Beside n f (keptAt n v f)
+  kept-beside : Beside n f (keptAt n v f)
   unfolding keptAt
   kept-beside = record {
     same-long = simp length-set;
@@ -162,9 +163,9 @@ module _ (n : ℕ) (f : List ℕ) (v : ℕ) (l : v < n) where
 
 -- The path is kept from v up; what is left of it keeps the rest.
 pub record Climbing (n top deepest : ℕ) (f₀ f : List ℕ) (v left : ℕ) : Type 0 where
-  pub tables : (c : ℕ) (h : List ℕ) → tablesAt n c f h ≡ tablesAt n c f₀ h
-  pub saved : (c : ℕ) (h : List ℕ) → placePath (tablesAt n c f₀ h) left v (savedAt n c f h)
-      ≡ placePath (tablesAt n c f₀ h) (rank (tablesAt n c f₀ h) deepest - rank (tablesAt n c f₀ h) top) deepest (savedAt n c f₀ h)
+  pub tables : (c : ℕ) (h : List ℕ) → heldTables n c f h ≡ heldTables n c f₀ h
+  pub saved : (c : ℕ) (h : List ℕ) → placePath (heldTables n c f₀ h) left v (savedAt n c f h)
+      ≡ placePath (heldTables n c f₀ h) (rank (heldTables n c f₀ h) deepest - rank (heldTables n c f₀ h) top) deepest (savedAt n c f₀ h)
   pub beside : Beside n f₀ f
   pub in-range : v < n
   pub on-way : T (placed (forestIn n f₀) v)
@@ -172,32 +173,32 @@ pub record Climbing (n top deepest : ℕ) (f₀ f : List ℕ) (v left : ℕ) : T
 pub climbing-starts : (n top deepest : ℕ) (f : List ℕ) → Climbable n top deepest f → Climbing n top deepest f f deepest (getD f (n + deepest) 0 - getD f (n + top) 0)
 climbing-starts n top deepest f W = record {
   tables = λ c h. refl;
-  saved = λ c h. rw (level-word (work n c) f h deepest (W .deep-in), level-word (work n c) f h top (W .top-in));
+  saved = λ c h. rw (level-word (holds n c) f h deepest (W .deep-in), level-word (holds n c) f h top (W .top-in));
   beside = record { same-long = refl; labels = refl; past = refl };
   in-range = W .deep-in;
   on-way = W .deep-placed;
 }
 
 module _ (n top deepest : ℕ) (f₀ f : List ℕ) (v left : ℕ) (G : Climbing n top deepest f₀ f v left) where
-  same-after : (c : ℕ) (h : List ℕ) → tablesAt n c (keptAt n v f) h ≡ tablesAt n c f₀ h
+  same-after : (c : ℕ) (h : List ℕ) → heldTables n c (keptAt n v f) h ≡ heldTables n c f₀ h
   same-after c h = kept-tables n f v (G .in-range) c h ∙ G .tables c h
 
-  saved-after : (c : ℕ) (h : List ℕ) → savedAt n c (keptAt n v f) h ≡ place v (parentOf (tablesAt n c f₀ h) v) (rank (tablesAt n c f₀ h) v) (savedAt n c f h)
+  saved-after : (c : ℕ) (h : List ℕ) → savedAt n c (keptAt n v f) h ≡ place v (parentOf (heldTables n c f₀ h) v) (rank (heldTables n c f₀ h) v) (savedAt n c f h)
   saved-after c h = kept-saved n f v (G .in-range) c h ∙ ap (λ (t : Tables). place v (parentOf t v) (rank t v) (savedAt n c f h)) (G .tables c h)
 
   -- The word read after the store.
-  parent-after : (c : ℕ) (h : List ℕ) → getD (keptAt n v f) v 0 ≡ parentOf (tablesAt n c f₀ h) v
-  parent-after c h = parent-word (work n c) (keptAt n v f) h v (G .in-range) ∙ ap (λ (t : Tables). parentOf t v) (same-after c h)
+  parent-after : (c : ℕ) (h : List ℕ) → getD (keptAt n v f) v 0 ≡ parentOf (heldTables n c f₀ h) v
+  parent-after c h = parent-word (holds n c) (keptAt n v f) h v (G .in-range) ∙ ap (λ (t : Tables). parentOf t v) (same-after c h)
 
   pub climbing-up : Standing n (forestIn n f₀) → 0 < left → Climbing n top deepest f₀ (keptAt n v f) (getD (keptAt n v f) v 0) (left - 1)
   unfolding placePath
   climbing-up S g =
       let (i, p) = parent-placed S v (G .in-range) (G .on-way) in
       let one-more : left ≡ suc (left - 1) = omega arith in
-      let e : getD (keptAt n v f) v 0 ≡ parentOf (forestIn n f₀) v = parent-after 0 [] in
+      let e : getD (keptAt n v f) v 0 ≡ parentOf (forestIn n f₀) v = parent-after 0 [] ∙ sym (bare-parent n 0 f₀ [] v) in
       record {
         tables = same-after;
-        saved = λ c h. rw (parent-after c h, saved-after c h) (ap (λ (k : ℕ). placePath (tablesAt n c f₀ h) k v (savedAt n c f h)) (sym one-more) ∙ G .saved c h);
+        saved = λ c h. rw (parent-after c h, saved-after c h) (ap (λ (k : ℕ). placePath (heldTables n c f₀ h) k v (savedAt n c f h)) (sym one-more) ∙ G .saved c h);
         beside = beside-join (G .beside) (kept-beside n f v (G .in-range));
         in-range = rw e i;
         on-way = rw e p;
@@ -207,12 +208,12 @@ module _ (n top deepest : ℕ) (f₀ f : List ℕ) (v left : ℕ) (G : Climbing 
   unfolding placePath
   climbing-ends e = record {
     tables = same-after;
-    saved = λ c h. saved-after c h ∙ ap (λ (k : ℕ). placePath (tablesAt n c f₀ h) k v (savedAt n c f h)) (sym e) ∙ G .saved c h;
+    saved = λ c h. saved-after c h ∙ ap (λ (k : ℕ). placePath (heldTables n c f₀ h) k v (savedAt n c f h)) (sym e) ∙ G .saved c h;
     beside = beside-join (G .beside) (kept-beside n f v (G .in-range));
   }
 
 -- A piece is placed: its top is hung and it is walked, in tables f₁ that hold what f does; then all of it stays, or only the path to the deepest.
-module _ (n c top note : ℕ) (f h : List ℕ) (W : Hanging n c top note f h) (f₁ : List ℕ) (same : tablesAt n c f₁ h ≡ tablesAt n c f h) (long : length f₁ ≡ length f) where
+module _ (n c top note : ℕ) (f h : List ℕ) (W : Hanging n c top note f h) (f₁ : List ℕ) (same : heldTables n c f₁ h ≡ heldTables n c f h) (long : length f₁ ≡ length f) where
   pub hangable-now : Hangable n top note f₁
   hangable-now = record {
     wide = wide-by long (W .wide);
@@ -222,8 +223,8 @@ module _ (n c top note : ℕ) (f h : List ℕ) (W : Hanging n c top note f h) (f
   }
 
   module _ (f₂ : List ℕ) (e₂ : f₂ ≡ hungAt n top note f₁) where
-    hung-now : tablesAt n c f₂ h ≡ hang top note (tablesAt n c f h)
-    hung-now = ap (λ (g : List ℕ). tablesAt n c g h) e₂ ∙ hung-tables n c f₁ h top note (W .ready .top-in) (W .note-in) ∙ ap (hang top note) same
+    hung-now : heldTables n c f₂ h ≡ hang top note (heldTables n c f h)
+    hung-now = ap (λ (g : List ℕ). heldTables n c g h) e₂ ∙ hung-tables n c f₁ h top note (W .ready .top-in) (W .note-in) ∙ ap (hang top note) same
 
     hung-as-long : length f₂ ≡ length f₁
     hung-as-long = ap length e₂ ∙ hung-long n f₁ top note
@@ -237,13 +238,13 @@ module _ (n c top note : ℕ) (f h : List ℕ) (W : Hanging n c top note f h) (f
     }
 
     module _ (deepest : ℕ) (f₃ : List ℕ) (G : Walks n c top deepest f₂ h f₃) where
-      walk-now : walked n top (tablesAt n c f₂ h) ≡ walkOf n top note (tablesAt n c f h)
+      walk-now : walked n top (heldTables n c f₂ h) ≡ walkOf n top note (heldTables n c f h)
       walk-now = ap (walked n top) hung-now
 
-      tables-now : tablesAt n c f₃ h ≡ walkOf n top note (tablesAt n c f h) .tables
+      tables-now : heldTables n c f₃ h ≡ walkOf n top note (heldTables n c f h) .tables
       tables-now = G .tables ∙ ap (λ (w : Walk). w .tables) walk-now
 
-      deep-now : deepest ≡ walkOf n top note (tablesAt n c f h) .deepest
+      deep-now : deepest ≡ walkOf n top note (heldTables n c f h) .deepest
       deep-now = G .deep ∙ ap (λ (w : Walk). w .deepest) walk-now
 
       low-now : drop (2 * n) f₃ ≡ drop (2 * n) f₁
@@ -258,8 +259,8 @@ module _ (n c top note : ℕ) (f h : List ℕ) (W : Hanging n c top note f h) (f
       pub places-whole : f₁ ≡ f → PlacesWhole n c top note f h f₃
       places-whole e = record { tables = tables-now; beside = rw e at low-beside }
 
-      deep-most : rank (tablesAt n c f₃ h) top ≤ rank (tablesAt n c f₃ h) deepest
-      deep-most = rw (tables-now, deep-now) (walk n top (hang top note (tablesAt n c f h)) (W .ready) .deepest-most top here)
+      deep-most : rank (heldTables n c f₃ h) top ≤ rank (heldTables n c f₃ h) deepest
+      deep-most = rw (tables-now, deep-now) (walk n top (hang top note (heldTables n c f h)) (W .ready) .deepest-most top here)
 
       pub walk-climbable : Climbable n top deepest f₃
       walk-climbable = record {
@@ -277,7 +278,7 @@ module _ (n c top note : ℕ) (f h : List ℕ) (W : Hanging n c top note f h) (f
 
         pub places-path : Copies 0 (8 * n) (2 * n) f f₁ → (f₅ : List ℕ) → Copies (8 * n) 0 (2 * n) f₄ f₅ → PlacesPath n c top note f h f₅
         places-path C₁ f₅ C₅ =
-            let saved-now : savedAt n c f₃ h ≡ tablesAt n c f h = saved-low n c f₁ f₃ h low-now ∙ saved-forest n c f f₁ h (W .wide) C₁ in
+            let saved-now : savedAt n c f₃ h ≡ heldTables n c f h = saved-low n c f₁ f₃ h low-now ∙ saved-forest n c f f₁ h (W .wide) C₁ in
             record {
               tables = back-tables n c f₄ f₅ h wide-again C₅ ∙ G₄ .saved c h ∙ rw (tables-now, deep-now, saved-now);
               beside = beside-join (saved-beside n c f f₁ h (W .wide) C₁) (beside-join low-beside (beside-join (G₄ .beside) (back-beside n c f₄ f₅ h wide-again C₅)));

@@ -1,8 +1,8 @@
 -- Take in Building: what is known where its head refuses nothing, its refusals, and what an accepted block leaves.
 -- Assumes nothing.
-use Prim.Native.Nat.{ℕ, zero, suc, _+_, _-_, _*_, _≤_, _<_}
+use Prim.Native.Nat.{ℕ, zero, suc, _+_, _-_, _*_, _≤_}
 use mathlib.Core.Path.{_≡_, refl, sym, ap, _∙_}
-use mathlib.Core.Bool.{Bool, true, false, _&&_, not}
+use mathlib.Core.Bool.{true, false}
 use mathlib.Core.List.{List, [], _∷_}
 use mathlib.Core.Logic.{inl, inr}
 use native.Mathlib.Omega.{arith}
@@ -10,17 +10,17 @@ use native.Mathlib.Decide.{ℕ-discrete}
 use lib.Dec.{T, eqb}
 use lib.ListN.{length, take, drop}
 use lib.Seq.{drop-drop}
-use Rattle.base.specs.Pick.{pick, pick-true, pick-false, tests}
+use Rattle.base.specs.Pick.{pick-true, tests}
 use Rattle.base.specs.Truth.{and-r, T-dec, T-true, T-false, true-T}
-use Rattle.base.specs.Answer.{Answer, gives, refuses}
-use Rattle.lists.specs.List.{andThen, linksAt, blockLinks, scanBlock}
+use Rattle.base.specs.Answer.{gives, refuses}
+use Rattle.lists.specs.List.{andThen, blockLinks, scanBlock}
 use Rattle.lists.specs.Link.{never-both, andThen-gives, answered}
 use Rattle.rules.specs.Links.{Link}
 use Rattle.rules.specs.Tables.{Tables}
 use Rattle.rules.specs.Building.{buildLinks}
-use Rattle.state.specs.Layout.{words, stored, tablesIn, fragOf, heldOf}
+use Rattle.state.specs.Layout.{tablesIn, fragOf, heldOf}
 use Rattle.state.specs.Test.{isBuilding, allZero, sound}
-use Rattle.state.specs.Call.{Left, boundsRefusal, headRefusal, headed, moved, leaves}
+use Rattle.state.specs.Call.{boundsRefusal, headRefusal, headed, moved, leaves}
 use Rattle.state.specs.Take.{tell, taken, takeIn}
 use Rattle.state.specs.Told.{takenTold}
 use Rattle.state.specs.Laws.Lists.{drop-take}

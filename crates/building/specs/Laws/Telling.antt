@@ -1,47 +1,45 @@
 -- What a told link leaves in the two tables, their pieces in scratch: a note, a held link, a lost mark, or nothing.
 -- Assumes nothing.
 use Prim.Native.Nat.{ℕ, zero, suc, _+_, _-_, _*_, _≤_, _<_, min, max}
-use mathlib.Core.Path.{_≡_, refl, sym, ap, _∙_, subst}
+use mathlib.Core.Path.{_≡_, refl, sym, ap, _∙_}
 use mathlib.Core.Bool.{Bool, true, false, _||_, not}
 use mathlib.Core.List.{List, [], _∷_, _++_, map}
-use mathlib.Core.Logic.{_⊎_, inl, inr, _≢_}
+use mathlib.Core.Logic.{inl, inr}
 use native.Mathlib.Omega.{arith}
 use native.Mathlib.Numerals.{add-one}
 use native.Mathlib.Nat.{mul-le-mul}
-use native.Mathlib.Decide.{decLt, ℕ-discrete}
 use lib.Dec.{T, ltb, eqb}
 use lib.ListN.{length, getD, set, take, drop, replicate, length-set, length-append, length-take, length-replicate}
 use lib.Seq.{getD-drop, drop-set-lt, drop-drop, take-at, drop-at}
 use Rattle.base.specs.Pick.{pick, pick-true, pick-false, tests}
 use Rattle.base.specs.Answer.{Answer, gives, refuses}
-use Rattle.lists.specs.List.{LinkAt, readLink, linksAt}
+use Rattle.lists.specs.List.{readLink, linksAt}
 use Rattle.lists.specs.Link.{never-both, Accepted, link-accepted}
 use Rattle.lists.specs.Block.{links-end, links-stop, walked}
-use Rattle.base.specs.Truth.{or-l, T-true, T-false}
+use Rattle.base.specs.Truth.{T-true, T-false}
 use Rattle.rules.specs.Links.{Link, between, linked}
-use Rattle.rules.specs.Tables.{Tables, rank, noteOf, placed, putNote, putMark, putHeld}
+use Rattle.rules.specs.Tables.{Tables, rank, noteOf, placed, putMark, putHeld}
 use Rattle.rules.specs.Building.{pieces, sizeOf, heldIn, better, noteLink, hold, fill, holdLink, buildLink, buildLinks}
-use Rattle.rules.specs.Laws.Facts.{Underway, Holding, Loose}
-use Rattle.rules.specs.Laws.Links.{between-elim, between-here, between-turn}
+use Rattle.rules.specs.Laws.Facts.{Underway, Loose}
 use Rattle.rules.specs.Laws.Pieces.{label-in, label-own}
 use Rattle.rules.specs.Laws.Tables.{placed-loose, rank-placed}
 use Rattle.rules.specs.Laws.Quota.{held-few}
 use Rattle.rules.specs.Laws.Step.{building-kept}
-use Rattle.state.specs.Layout.{words, stored, radix, linkIn, wordOf, tablesIn, bare, forestIn}
+use Rattle.state.specs.Layout.{words, stored, linkIn, wordOf, tablesIn, forestIn}
 use Rattle.state.specs.Test.{allZero}
 use Rattle.state.specs.Laws.Lists.{zeros-pass}
-use Rattle.state.specs.Laws.Words.{link-word, word-link}
-use Rattle.state.specs.Laws.Layout.{level-word, note-word, store-note, store-mark, store-held, tables-frag-same}
+use Rattle.state.specs.Laws.Words.{link-word}
+use Rattle.state.specs.Laws.Layout.{store-note, store-mark, store-held, tables-frag-same}
 use Rattle.building.specs.Pieces.{wiped, heldMost, Gathered, LabelIs, Joinable, Joins, Gatherable, Gathers}
 use Rattle.building.specs.Laws.Scratch.{wiped-length}
-use Rattle.building.specs.Telling.{holds, heldTables, Telling, Ends, Leaves, noting, Notable, roomAt, Sized, Asked, MayHold, Holdable, Holds, Between, Rest, Tells, Tellable, Told}
+use Rattle.building.specs.Telling.{holds, heldTables, Telling, Ends, Leaves, noting, Notable, roomAt, Asked, MayHold, Holdable, Holds, Between, Rest, Tells, Tellable, Told}
 
 -- Words past the stored sections say the pieces.
 pub gathered-same : (n : ℕ) (held : List Link) (f f′ : List ℕ) → length f′ ≡ length f → drop (stored * n) f′ ≡ drop (stored * n) f → Gathered n held f → Gathered n held f′
 gathered-same n held f f′ l d G =
     let at : (i : ℕ) → stored * n ≤ i → getD f′ i 0 ≡ getD f i 0 = λ i h.
-        let e : i ≡ stored * n + (i - stored * n) = omega arith in
-        rw e (sym (getD-drop (stored * n) f′ (i - stored * n) 0) ∙ ap (λ r. getD r (i - stored * n) 0) d ∙ getD-drop (stored * n) f (i - stored * n) 0) in
+    let e : i ≡ stored * n + (i - stored * n) = omega arith in
+    rw e (sym (getD-drop (stored * n) f′ (i - stored * n) 0) ∙ ap (λ r. getD r (i - stored * n) 0) d ∙ getD-drop (stored * n) f (i - stored * n) 0) in
     record {
       pointing = record {
         few-fragments = G .pointing .few-fragments;
@@ -457,7 +455,7 @@ module _ {n k count : ℕ} {f h : List ℕ} (W : Tellable n k count f h) where
         let L = D links e in
         let S = L .telling in
         let kept : heldTables n count′ (wiped (4 * n) (16 * n) f′) h′ ≡ heldTables n count′ f′ h′ =
-            tables-frag-same (holds n count′) f′ (wiped (4 * n) (16 * n) f′) h′ (wiped-front (4 * n) (16 * n) f′ (omega arith) (S .long)) in
+        tables-frag-same (holds n count′) f′ (wiped (4 * n) (16 * n) f′) h′ (wiped-front (4 * n) (16 * n) f′ (omega arith) (S .long)) in
         let z : 16 * n - 4 * n ≡ 12 * n = omega arith in
         let all : buildLinks n k (heldTables n count g h) links ≡ buildLinks n k (heldTables n count f h) links = ap (λ x. buildLinks n k x links) same-tables in
         rw w (record {

@@ -1,12 +1,12 @@
 -- What the stores of a walk change, which neighbour it goes to next, and that its loop makes the walk of the rules.
 -- Assumes nothing.
-use Prim.Native.Nat.{ℕ, zero, suc, pred, _+_, _-_, _*_, _≤_, _<_}
-use mathlib.Core.Path.{_≡_, refl, sym, ap, _∙_, subst}
-use mathlib.Core.Bool.{Bool, true, false, _&&_, not}
-use mathlib.Core.List.{List, [], _∷_, _++_, map}
+use Prim.Native.Nat.{ℕ, suc, pred, _+_, _-_, _*_, _≤_, _<_}
+use mathlib.Core.Path.{_≡_, refl, sym, ap, _∙_}
+use mathlib.Core.Bool.{Bool, _&&_, not}
+use mathlib.Core.List.{List, [], _∷_, map}
 use mathlib.Core.Logic.{_⊎_, inl, inr, _≢_}
 use native.Mathlib.Omega.{arith}
-use native.Mathlib.Decide.{ℕ-discrete, decLt}
+use native.Mathlib.Decide.{ℕ-discrete}
 use native.Mathlib.Numerals.{add-one}
 use borrow.Author.Tests.{eq-eqb, ne-eqb}
 use lib.Dec.{T, ltb, eqb, not-T, T-not}
@@ -20,13 +20,14 @@ use Rattle.rules.specs.Tables.{Tables, parentOf, rank, placed, place}
 use Rattle.rules.specs.Building.{Walk, hang, nextOf, reachNext, goBack, walkStep, walkSteps, walked}
 use Rattle.rules.specs.Laws.Facts.{Standing, Loose}
 use Rattle.rules.specs.Laws.Links.{between-elim, between-here, between-turn, linked-nil, append-left, snoc-cases, snoc-last}
-use Rattle.rules.specs.Laws.Tables.{SameForest, placed-loose, placed-or-loose, placed-place-same, placed-place-other, standing-same, standing-place}
+use Rattle.rules.specs.Laws.Tables.{placed-loose, placed-or-loose, placed-place-same, placed-place-other, standing-same, standing-place}
 use Rattle.rules.specs.Laws.Kept.{parent-placed}
 use Rattle.rules.specs.Laws.Tables.{rank-most}
 use Rattle.rules.specs.Laws.Walk.{step-on, step-back, back-at, back-rest, steps-suc, steps-rest, next-new}
 use Rattle.state.specs.Layout.{linkIn, tablesIn, forestIn}
-use Rattle.state.specs.Laws.Layout.{level-word, parent-word, store-place}
-use Rattle.building.specs.Closing.{Wide, Linking, tablesAt, work, otherEnd, Nearer, putAt, hungAt, reachedAt, deeper, Reachable, Walkable, Walks}
+use Rattle.state.specs.Laws.Layout.{level-word, store-place}
+use Rattle.building.specs.Closing.{Wide, otherEnd, Nearer, putAt, hungAt, reachedAt, deeper, Reachable, Walkable, Walks}
+use Rattle.building.specs.Telling.{heldTables, holds}
 use Rattle.building.specs.Laws.Gather.{links-more}
 use Rattle.building.specs.Laws.Choosing.{first-is}
 
@@ -67,11 +68,7 @@ module _ (n : ℕ) (h : List ℕ) (i v : ℕ) where
 abbrev linksOf : List ℕ → ℕ → List Link
 linksOf h i = map linkIn (take i h)
 
--- w is linked with v by one of the first i held words, and unplaced.
-abbrev Beckons : Tables → List ℕ → ℕ → ℕ → ℕ → Bool
-Beckons t h v i w = linked (linksOf h i) v w && not (placed t w)
-
--- The smallest such fragment so far.
+-- The smallest unplaced fragment linked with v by one of the first i held words; n while there is none.
 pub record Next (n : ℕ) (t : Tables) (h : List ℕ) (v i best : ℕ) : Type 0 where
   pub within : best ≤ n
   pub passes : best < n → T (linked (linksOf h i) v best) × Loose t best
@@ -108,17 +105,17 @@ module _ (n : ℕ) (t : Tables) (h : List ℕ) (v : ℕ) where
       ];
     }
 
-pub next-turn : (n c : ℕ) (f h : List ℕ) (v i best x r : ℕ) → i < length h → Next n (tablesAt n c f h) h v i best → x ≡ otherEnd n h i v → Nearer n f x best r → Next n (tablesAt n c f h) h v (i + 1) r
+pub next-turn : (n c : ℕ) (f h : List ℕ) (v i best x r : ℕ) → i < length h → Next n (heldTables n c f h) h v i best → x ≡ otherEnd n h i v → Nearer n f x best r → Next n (heldTables n c f h) h v (i + 1) r
 unfolding tablesIn rank
 next-turn n c f h v i best x r l N q d = elim (rw q at d) [
-  | inl (e, g, o) ↦ rw e (next-better n (tablesAt n c f h) h v i best l N g o)
-  | inr (e, o) ↦ rw e (next-same n (tablesAt n c f h) h v i best l N o)
+  | inl (e, g, o) ↦ rw e (next-better n (heldTables n c f h) h v i best l N g o)
+  | inr (e, o) ↦ rw e (next-same n (heldTables n c f h) h v i best l N o)
 ]
 
-pub next-found : (n c : ℕ) (f h : List ℕ) (v best : ℕ) → Next n (tablesAt n c f h) h v c best → best ≡ nextOf n (tablesAt n c f h) v
+pub next-found : (n c : ℕ) (f h : List ℕ) (v best : ℕ) → Next n (heldTables n c f h) h v c best → best ≡ nextOf n (heldTables n c f h) v
 unfolding nextOf tablesIn
 next-found n c f h v best N =
-    let t = tablesAt n c f h in
+    let t = heldTables n c f h in
     first-is (λ w. linked (t .held) v w && not (placed t w)) n best (N .within)
     (λ l. let (a, b) = N .passes l in and-intro (linked (linksOf h c) v best) (not (placed t best)) a (not-T (placed t best) (λ p. placed-loose t best p b)))
     (λ k l q. N .least k l (and-l (linked (linksOf h c) v k) (not (placed t k)) q) (elim (placed-or-loose t k) [
@@ -127,15 +124,19 @@ next-found n c f h v best N =
     ]))
 
 -- What is known of the forest alone.
-pub bare-standing : (n c : ℕ) (f h : List ℕ) → Standing n (tablesAt n c f h) → Standing n (forestIn n f)
+pub bare-standing : (n c : ℕ) (f h : List ℕ) → Standing n (heldTables n c f h) → Standing n (forestIn n f)
 unfolding tablesIn
 bare-standing n c f h S = standing-same (record { same-parent = refl; same-level = refl }) (S .long-note) (S .long-mark) S
 
-pub bare-rank : (n c : ℕ) (f h : List ℕ) (v : ℕ) → rank (forestIn n f) v ≡ rank (tablesAt n c f h) v
+pub bare-rank : (n c : ℕ) (f h : List ℕ) (v : ℕ) → rank (forestIn n f) v ≡ rank (heldTables n c f h) v
 unfolding tablesIn rank
 bare-rank n c f h v = refl
 
-pub bare-placed : (n c : ℕ) (f h : List ℕ) (v : ℕ) → placed (forestIn n f) v ≡ placed (tablesAt n c f h) v
+pub bare-parent : (n c : ℕ) (f h : List ℕ) (v : ℕ) → parentOf (forestIn n f) v ≡ parentOf (heldTables n c f h) v
+unfolding tablesIn parentOf
+bare-parent n c f h v = refl
+
+pub bare-placed : (n c : ℕ) (f h : List ℕ) (v : ℕ) → placed (forestIn n f) v ≡ placed (heldTables n c f h) v
 unfolding tablesIn rank placed
 bare-placed n c f h v = refl
 
@@ -159,32 +160,32 @@ reached-put n at x f = rw add-one
 
 -- What the stores change of the tables.
 module _ (n c : ℕ) (f h : List ℕ) where
-  pub put-tables : (v p r : ℕ) → v < n → tablesAt n c (putAt n v p r f) h ≡ place v p r (tablesAt n c f h)
+  put-tables : (v p r : ℕ) → v < n → heldTables n c (putAt n v p r f) h ≡ place v p r (heldTables n c f h)
   unfolding putAt
-  put-tables v p r l = store-place (work n c) f h v r l p
+  put-tables v p r l = store-place (holds n c) f h v r l p
 
-  pub reached-tables : (at x : ℕ) → at < n → x < n → tablesAt n c (reachedAt n at x f) h ≡ place x at (suc (rank (tablesAt n c f h) at)) (tablesAt n c f h)
+  reached-tables : (at x : ℕ) → at < n → x < n → heldTables n c (reachedAt n at x f) h ≡ place x at (suc (rank (heldTables n c f h) at)) (heldTables n c f h)
   unfolding reachedAt
-  reached-tables at x l g = rw (level-word (work n c) f h at l) (put-tables x at (suc (rank (tablesAt n c f h) at)) g)
+  reached-tables at x l g = rw (level-word (holds n c) f h at l) (put-tables x at (suc (rank (heldTables n c f h) at)) g)
 
-  pub deeper-is : (at x d : ℕ) → at < n → d < n → deeper n at x d f ≡ pick (ltb (rank (tablesAt n c f h) d) (suc (rank (tablesAt n c f h) at))) x d
+  deeper-is : (at x d : ℕ) → at < n → d < n → deeper n at x d f ≡ pick (ltb (rank (heldTables n c f h) d) (suc (rank (heldTables n c f h) at))) x d
   unfolding deeper
-  deeper-is at x d l g = rw (level-word (work n c) f h at l, level-word (work n c) f h d g)
+  deeper-is at x d l g = rw (level-word (holds n c) f h at l, level-word (holds n c) f h d g)
 
-  pub hung-tables : (top note : ℕ) → top < n → note ≤ n → tablesAt n c (hungAt n top note f) h ≡ hang top note (tablesAt n c f h)
+  pub hung-tables : (top note : ℕ) → top < n → note ≤ n → heldTables n c (hungAt n top note f) h ≡ hang top note (heldTables n c f h)
   unfolding hungAt hang
   hung-tables top note l g = elim (ℕ-discrete note 0) [
     | yes e ↦ rw (eq-eqb note 0 e, pick-true, pick-true) (put-tables top top 1 l)
-    | no d ↦ rw (ne-eqb note 0 d, pick-false, pick-false, level-word (work n c) f h (pred note) (omega arith)) (put-tables top (pred note) (suc (rank (tablesAt n c f h) (pred note))) l)
+    | no d ↦ rw (ne-eqb note 0 d, pick-false, pick-false, level-word (holds n c) f h (pred note) (omega arith)) (put-tables top (pred note) (suc (rank (heldTables n c f h) (pred note))) l)
   ]
 
 -- They change nothing but the sections of the parents and the levels.
 module _ (n : ℕ) (f : List ℕ) where
-  pub put-kept : (v p r : ℕ) → v < n → drop (2 * n) (putAt n v p r f) ≡ drop (2 * n) f
+  put-kept : (v p r : ℕ) → v < n → drop (2 * n) (putAt n v p r f) ≡ drop (2 * n) f
   unfolding putAt
   put-kept v p r l = drop-set-lt (2 * n) (set f v p) (n + v) r (omega arith) ∙ drop-set-lt (2 * n) f v p (omega arith)
 
-  pub put-long : (v p r : ℕ) → length (putAt n v p r f) ≡ length f
+  put-long : (v p r : ℕ) → length (putAt n v p r f) ≡ length f
   unfolding putAt
   put-long v p r = simp length-set
 
@@ -208,16 +209,16 @@ module _ (n : ℕ) (f : List ℕ) where
 
 -- A walk on its way: the steps that are left make it the whole walk.
 abbrev walkAt : (n c : ℕ) (f h : List ℕ) (at deepest : ℕ) → Walk
-walkAt n c f h at deepest = record { tables = tablesAt n c f h; at = at; deepest = deepest }
+walkAt n c f h at deepest = record { tables = heldTables n c f h; at = at; deepest = deepest }
 
 pub record Going (n c top : ℕ) (f₀ h f : List ℕ) (left at deepest : ℕ) : Type 0 where
   pub same-long : length f ≡ length f₀
-  pub steps : walkSteps n top left (walkAt n c f h at deepest) ≡ walked n top (tablesAt n c f₀ h)
-  pub standing : Standing n (tablesAt n c f h)
+  pub steps : walkSteps n top left (walkAt n c f h at deepest) ≡ walked n top (heldTables n c f₀ h)
+  pub standing : Standing n (heldTables n c f h)
   pub at-in : at < n
-  pub at-placed : T (placed (tablesAt n c f h) at)
+  pub at-placed : T (placed (heldTables n c f h) at)
   pub deep-in : deepest < n
-  pub deep-placed : T (placed (tablesAt n c f h) deepest)
+  pub deep-placed : T (placed (heldTables n c f h) deepest)
   pub kept : drop (2 * n) f ≡ drop (2 * n) f₀
 
 pub going-starts : (n c top : ℕ) (f h : List ℕ) → Walkable n c top f h → Going n c top f h f (2 * n) top top
@@ -237,7 +238,7 @@ module _ (n c top : ℕ) (f₀ h f : List ℕ) (left at deepest : ℕ) (G : Goin
   -- Where it rests, or no step is left, it is the whole walk.
   going-whole : walkSteps n top left (walkAt n c f h at deepest) ≡ walkAt n c f h at deepest → Walks n c top deepest f₀ h f
   going-whole e =
-      let w : walkAt n c f h at deepest ≡ walked n top (tablesAt n c f₀ h) = sym e ∙ G .steps in
+      let w : walkAt n c f h at deepest ≡ walked n top (heldTables n c f₀ h) = sym e ∙ G .steps in
       record {
         tables = ap (λ (x : Walk). x .tables) w;
         deep = ap (λ (x : Walk). x .deepest) w;
@@ -252,7 +253,7 @@ module _ (n c top : ℕ) (f₀ h f : List ℕ) (left at deepest : ℕ) (G : Goin
   unfolding walkSteps
   going-ends e = going-whole (rw e refl)
 
-  pub going-rests : n ≤ nextOf n (tablesAt n c f h) at → at ≡ top → Walks n c top deepest f₀ h f
+  pub going-rests : n ≤ nextOf n (heldTables n c f h) at → at ≡ top → Walks n c top deepest f₀ h f
   going-rests g e = going-whole (steps-rest n top (walkAt n c f h at deepest) (step-back n top (walkAt n c f h at deepest) g ∙ back-rest top (walkAt n c f h at deepest) e) left)
 
   pub going-reachable : Wide n f → (x : ℕ) → x < n → Reachable n at x deepest f
@@ -265,18 +266,18 @@ module _ (n c top : ℕ) (f₀ h f : List ℕ) (left at deepest : ℕ) (G : Goin
   }
 
   module _ (some : 0 < left) where
-    after : (w : Walk) → walkStep n top (walkAt n c f h at deepest) ≡ w → walkSteps n top (left - 1) w ≡ walked n top (tablesAt n c f₀ h)
+    after : (w : Walk) → walkStep n top (walkAt n c f h at deepest) ≡ w → walkSteps n top (left - 1) w ≡ walked n top (heldTables n c f₀ h)
     after w e =
         let one-more : left ≡ suc (left - 1) = omega arith in
         sym (steps-suc n top (left - 1) (walkAt n c f h at deepest) e) ∙ ap (λ (k : ℕ). walkSteps n top k (walkAt n c f h at deepest)) (sym one-more) ∙ G .steps
 
-    pub going-back : n ≤ nextOf n (tablesAt n c f h) at → at ≢ top → (p : ℕ) → p ≡ parentOf (tablesAt n c f h) at → Going n c top f₀ h f (left - 1) p deepest
+    pub going-back : n ≤ nextOf n (heldTables n c f h) at → at ≢ top → (p : ℕ) → p ≡ parentOf (heldTables n c f h) at → Going n c top f₀ h f (left - 1) p deepest
     unfolding goBack
     going-back g d p e =
         let (i, q) = parent-placed (G .standing) at (G .at-in) (G .at-placed) in
         rw e (record {
           same-long = G .same-long;
-          steps = after (walkAt n c f h (parentOf (tablesAt n c f h) at) deepest) (step-back n top (walkAt n c f h at deepest) g ∙ ap (λ (x : ℕ). walkAt n c f h x deepest) (back-at top (walkAt n c f h at deepest) d));
+          steps = after (walkAt n c f h (parentOf (heldTables n c f h) at) deepest) (step-back n top (walkAt n c f h at deepest) g ∙ ap (λ (x : ℕ). walkAt n c f h x deepest) (back-at top (walkAt n c f h at deepest) d));
           standing = G .standing;
           at-in = i;
           at-placed = q;
@@ -285,9 +286,9 @@ module _ (n c top : ℕ) (f₀ h f : List ℕ) (left at deepest : ℕ) (G : Goin
           kept = G .kept;
         })
 
-    module _ (x : ℕ) (e : x ≡ nextOf n (tablesAt n c f h) at) (l : x < n) where
-      new-loose : Loose (tablesAt n c f h) x
-      new-loose = rw e (next-new n (tablesAt n c f h) at (rw e at l) .1)
+    module _ (x : ℕ) (e : x ≡ nextOf n (heldTables n c f h) at) (l : x < n) where
+      new-loose : Loose (heldTables n c f h) x
+      new-loose = rw e (next-new n (heldTables n c f h) at (rw e at l) .1)
 
       reach-is : walkStep n top (walkAt n c f h at deepest) ≡ walkAt n c (reachedAt n at x f) h x (deeper n at x deepest f)
       unfolding reachNext
@@ -295,27 +296,27 @@ module _ (n c top : ℕ) (f₀ h f : List ℕ) (left at deepest : ℕ) (G : Goin
           step-on n top (walkAt n c f h at deepest) (rw e at l)
           ∙ rw (← e, reached-tables n c f h at x (G .at-in) l, deeper-is n c f h at x deepest (G .at-in) (G .deep-in))
 
-      level-long : x < length (tablesAt n c f h .level)
+      level-long : x < length (heldTables n c f h .level)
       level-long = omega (arith, G .standing .long-level)
 
-      placed-still : (v : ℕ) → T (placed (tablesAt n c f h) v) → T (placed (tablesAt n c (reachedAt n at x f) h) v)
+      placed-still : (v : ℕ) → T (placed (heldTables n c f h) v) → T (placed (heldTables n c (reachedAt n at x f) h) v)
       placed-still v p =
-          let t = tablesAt n c f h in
+          let t = heldTables n c f h in
           rw (reached-tables n c f h at x (G .at-in) l, placed-place-other x at (suc (rank t at)) t v (λ q. placed-loose t v p (rw q new-loose))) p
 
-      new-placed : T (placed (tablesAt n c (reachedAt n at x f) h) x)
-      new-placed = rw (reached-tables n c f h at x (G .at-in) l) (placed-place-same x at (suc (rank (tablesAt n c f h) at)) (tablesAt n c f h) level-long (omega arith))
+      new-placed : T (placed (heldTables n c (reachedAt n at x f) h) x)
+      new-placed = rw (reached-tables n c f h at x (G .at-in) l) (placed-place-same x at (suc (rank (heldTables n c f h) at)) (heldTables n c f h) level-long (omega arith))
 
       reached-on : Going n c top f₀ h (reachedAt n at x f) (left - 1) x (deeper n at x deepest f)
       unfolding reachedAt deeper
       reached-on = record {
         same-long = put-long n f x at _ ∙ G .same-long;
         steps = after (walkAt n c (reachedAt n at x f) h x (deeper n at x deepest f)) reach-is;
-        standing = rw (reached-tables n c f h at x (G .at-in) l) (standing-place x at (suc (rank (tablesAt n c f h) at)) (G .standing) l new-loose (inr (G .at-in, G .at-placed, refl)));
+        standing = rw (reached-tables n c f h at x (G .at-in) l) (standing-place x at (suc (rank (heldTables n c f h) at)) (G .standing) l new-loose (inr (G .at-in, G .at-placed, refl)));
         at-in = l;
         at-placed = new-placed;
         deep-in = pick-all (λ d. d < n) (ltb (getD f (n + deepest) 0) (suc (getD f (n + at) 0))) x deepest l (G .deep-in);
-        deep-placed = pick-all (λ d. T (placed (tablesAt n c (reachedAt n at x f) h) d)) (ltb (getD f (n + deepest) 0) (suc (getD f (n + at) 0))) x deepest new-placed (placed-still deepest (G .deep-placed));
+        deep-placed = pick-all (λ d. T (placed (heldTables n c (reachedAt n at x f) h) d)) (ltb (getD f (n + deepest) 0) (suc (getD f (n + at) 0))) x deepest new-placed (placed-still deepest (G .deep-placed));
         kept = put-kept n f x at _ l ∙ G .kept;
       }
 

@@ -1,14 +1,15 @@
-use Rattle.building.specs.Laws.Choosing.{turn-member, turn-other}
+-- `building::choose::best_note` meets its contract: after v turns it has the best note of the members below v.
+-- Assumes nothing.
+use Rattle.building.specs.Laws.Choosing.{turn-member, turn-other, noted-none}
 use mathlib.Core.List.{[]}
 use borrow.Author.Needs.{needs}
 use Prim.Native.Nat.{_≤_, _-_, _+_, _*_}
-use mathlib.Core.Path.{_≡_, refl, sym, ap, _∙_}
+use mathlib.Core.Path.{_≡_, sym, _∙_}
 use native.Mathlib.Omega.{arith}
 use mathlib.Core.Logic.{⊎-elim}
 use Rattle.rules.specs.Building.{noted}
 use Rattle.state.specs.Layout.{section, forestIn, bare}
 use Rattle.state.specs.Laws.Layout.{note-word}
-use Rattle.building.specs.Laws.Choosing.{noted-none, noted-member, noted-other}
 use Rattle.building.proofs.choose.best_note.Statement.{statement}
 use Rattle.building.proofs.choose.best_note.Tie as tie
 use Rattle.building.proofs.choose.best_note.Reads as reads
@@ -26,48 +27,22 @@ abbrev μ-loop : tie.MeasureT-loop
 loop-holds : tie.Need-loop-holds Inv-loop μ-loop
 loop-holds c = (omega arith, noted-none _ _ _, omega arith)
 
--- src/choose.rt:49:12
-is-member-requires : tie.Need-is-member-requires Inv-loop μ-loop
-is-member-requires c κs = search needs
-
--- src/choose.rt:50:52
-mul-better-note : tie.Need-mul-better-note Inv-loop μ-loop
-mul-better-note c = search needs
-
--- src/choose.rt:50:52
-add-better-note : tie.Need-add-better-note Inv-loop μ-loop
-add-better-note c = search needs
-
--- src/choose.rt:50:47
-mul-better-note-2 : tie.Need-mul-better-note-2 Inv-loop μ-loop
-mul-better-note-2 c = search needs
-
--- src/choose.rt:50:47
-shared-slice-read-better-note : tie.Need-shared-slice-read-better-note Inv-loop μ-loop
-shared-slice-read-better-note c = search needs
-
 -- src/choose.rt:50:47
 cast-better-note : tie.Need-cast-better-note Inv-loop μ-loop
 cast-better-note c = let l = c .before .before .before .before .loop in omega (arith, c .shared-slice-known2 .given (2 * c .before .before .before .before .before .before .args .n + l .v))
 
 -- src/choose.rt:50:13
 better-note-requires : tie.Need-better-note-requires Inv-loop μ-loop
-better-note-requires c κs = let a = c .before .before .before .before .before .before .args in
+better-note-requires c κs =
+    let a = c .before .before .before .before .before .before .args in
     let q = c .before .before .before .before .before .before .pre in
     let l = c .before .before .before .before .loop in
     (q .wide, l .inv .2, omega (arith, note-word (bare (a .n)) (a .frag .now) [] (l .v) (omega arith), q .notes (l .v) (omega arith)))
 
--- src/choose.rt:52:9
-add-v : tie.Need-add-v Inv-loop μ-loop
-add-v c = search needs
-
--- src/choose.rt:48:5
-loop-less : tie.Need-loop-less Inv-loop μ-loop
-loop-less c = search needs
-
 -- src/choose.rt:48:5
 loop-again : tie.Need-loop-again Inv-loop μ-loop
-loop-again c = let l = c .before .before .before .loop in
+loop-again c =
+    let l = c .before .before .before .loop in
     ⊎-elim
     (λ w. (omega arith, turn-member _ _ _ _ _ (omega arith) (l .inv .1) (sym (w .0 .taken) ∙ c .before .is-member .ensures) _ (w .3 ∙ w .2 .ensures .0), omega (arith, w .2 .ensures .1, w .3)))
     (λ w. (omega arith, turn-other _ _ _ _ _ (omega arith) (l .inv .1) (sym (w .0 .left) ∙ c .before .is-member .ensures) _ (w .1), omega (arith, w .1)))
@@ -75,7 +50,8 @@ loop-again c = let l = c .before .before .before .loop in
 
 -- src/choose.rt:42:1
 returns : tie.Need-returns Inv-loop μ-loop
-returns c = let l = c .before .loop in
+returns c =
+    let l = c .before .loop in
     let e : l .v ≡ c .before .before .before .args .n = omega arith in
     (rw e at (l .inv .1), l .inv .2)
 
@@ -86,14 +62,14 @@ best-note-spec =
     Inv-loop
     μ-loop
     loop-holds
-    is-member-requires
-    mul-better-note
-    add-better-note
-    mul-better-note-2
-    shared-slice-read-better-note
+    (λ c κs. search needs)
+    (λ c. search needs)
+    (λ c. search needs)
+    (λ c. search needs)
+    (λ c. search needs)
     cast-better-note
     better-note-requires
-    add-v
-    loop-less
+    (λ c. search needs)
+    (λ c. search needs)
     loop-again
     returns)

@@ -1,3 +1,5 @@
+-- `building::choose::better_note` meets its contract: by the ladder of the rules, with the two levels read from their words.
+-- Assumes nothing.
 use Rattle.building.specs.Laws.Choosing.{better-old, better-new, better-deeper, better-higher, better-smaller, better-same, noted-level}
 use native.Mathlib.Omega.{arith}
 use borrow.Author.Needs.{needs}
@@ -14,62 +16,34 @@ returns c = (better-old _ _ _ (omega arith), omega arith)
 returns-2 : tie.Need-returns-2
 returns-2 c = (better-new _ _ _ (omega arith) (omega arith), omega arith)
 
--- src/choose.rt:19:25
-sub-was : tie.Need-sub-was
-sub-was c = search needs
-
--- src/choose.rt:19:20
-add-was : tie.Need-add-was
-add-was c = search needs
-
--- src/choose.rt:19:15
-mul-was : tie.Need-mul-was
-mul-was c = search needs
-
--- src/choose.rt:19:15
-shared-slice-read-was : tie.Need-shared-slice-read-was
-shared-slice-read-was c = search needs
-
--- src/choose.rt:20:24
-sub-is : tie.Need-sub-is
-sub-is c = search needs
-
--- src/choose.rt:20:19
-add-is : tie.Need-add-is
-add-is c = search needs
-
--- src/choose.rt:20:14
-mul-is : tie.Need-mul-is
-mul-is c = search needs
-
--- src/choose.rt:20:14
-shared-slice-read-is : tie.Need-shared-slice-read-is
-shared-slice-read-is c = search needs
-
 -- src/choose.rt:22:9
 returns-3 : tie.Need-returns-3
-returns-3 c = let a = c .before .before .before .before .before .args in
+returns-3 c =
+    let a = c .before .before .before .before .before .args in
     let x = noted-level (a .n) (a .frag .now) (a .old) (omega arith) (omega arith) in
     let y = noted-level (a .n) (a .frag .now) (a .new) (omega arith) (omega arith) in
     (better-deeper _ _ _ (omega arith) (omega arith) (omega arith), omega arith)
 
 -- src/choose.rt:25:9
 returns-4 : tie.Need-returns-4
-returns-4 c = let a = c .before .before .before .before .before .before .args in
+returns-4 c =
+    let a = c .before .before .before .before .before .before .args in
     let x = noted-level (a .n) (a .frag .now) (a .old) (omega arith) (omega arith) in
     let y = noted-level (a .n) (a .frag .now) (a .new) (omega arith) (omega arith) in
     (better-higher _ _ _ (omega arith) (omega arith) (omega arith), omega arith)
 
 -- src/choose.rt:28:9
 returns-5 : tie.Need-returns-5
-returns-5 c = let a = c .before .before .before .before .before .before .before .args in
+returns-5 c =
+    let a = c .before .before .before .before .before .before .before .args in
     let x = noted-level (a .n) (a .frag .now) (a .old) (omega arith) (omega arith) in
     let y = noted-level (a .n) (a .frag .now) (a .new) (omega arith) (omega arith) in
     (better-smaller _ _ _ (omega arith) (omega arith) (omega arith) (omega arith), omega arith)
 
 -- src/choose.rt:9:1
 returns-6 : tie.Need-returns-6
-returns-6 c = let a = c .before .before .before .before .before .before .before .args in
+returns-6 c =
+    let a = c .before .before .before .before .before .before .before .args in
     let x = noted-level (a .n) (a .frag .now) (a .old) (omega arith) (omega arith) in
     let y = noted-level (a .n) (a .frag .now) (a .new) (omega arith) (omega arith) in
     (better-same _ _ _ (omega arith) (omega arith) (omega arith) (omega arith), omega arith)
@@ -80,14 +54,14 @@ better-note-spec =
     (tie.spec
     returns
     returns-2
-    sub-was
-    add-was
-    mul-was
-    shared-slice-read-was
-    sub-is
-    add-is
-    mul-is
-    shared-slice-read-is
+    (λ c. search needs)
+    (λ c. search needs)
+    (λ c. search needs)
+    (λ c. search needs)
+    (λ c. search needs)
+    (λ c. search needs)
+    (λ c. search needs)
+    (λ c. search needs)
     returns-3
     returns-4
     returns-5

@@ -1,12 +1,11 @@
-use Rattle.building.specs.Laws.Choosing.{none-noted-more}
-use Prim.Native.Nat.{_+_, _*_}
-use mathlib.Core.Logic.{inl, inr}
+-- `building::choose::first_noted` meets its contract: no member below v has the note.
+-- Assumes nothing.
+use Rattle.building.specs.Laws.Choosing.{none-noted-more, NoneNoted, first-found, first-nowhere}
+use Prim.Native.Nat.{_+_, _*_, _≤_, _-_}
+use mathlib.Core.Logic.{inl, inr, ⊎-elim}
 use borrow.Author.Needs.{needs}
-use Prim.Native.Nat.{_≤_, _-_}
-use mathlib.Core.Path.{_≡_, refl, sym, ap, _∙_}
+use mathlib.Core.Path.{_≡_, sym, _∙_}
 use native.Mathlib.Omega.{arith}
-use mathlib.Core.Logic.{⊎-elim}
-use Rattle.building.specs.Laws.Choosing.{NoneNoted, first-found, first-nowhere}
 use Rattle.building.proofs.choose.first_noted.Statement.{statement}
 use Rattle.building.proofs.choose.first_noted.Tie as tie
 use Rattle.building.proofs.choose.first_noted.Reads as reads
@@ -23,26 +22,6 @@ abbrev μ-loop : tie.MeasureT-loop
 loop-holds : tie.Need-loop-holds Inv-loop μ-loop
 loop-holds c = (omega arith, λ k l m e. omega arith)
 
--- src/choose.rt:64:12
-is-member-requires : tie.Need-is-member-requires Inv-loop μ-loop
-is-member-requires c κs = search needs
-
--- src/choose.rt:65:21
-mul-if2 : tie.Need-mul-if2 Inv-loop μ-loop
-mul-if2 c = search needs
-
--- src/choose.rt:65:21
-add-if2 : tie.Need-add-if2 Inv-loop μ-loop
-add-if2 c = search needs
-
--- src/choose.rt:65:16
-mul-if2-2 : tie.Need-mul-if2-2 Inv-loop μ-loop
-mul-if2-2 c = search needs
-
--- src/choose.rt:65:16
-shared-slice-read-if2 : tie.Need-shared-slice-read-if2 Inv-loop μ-loop
-shared-slice-read-if2 c = search needs
-
 -- src/choose.rt:65:16
 cast-if2 : tie.Need-cast-if2 Inv-loop μ-loop
 cast-if2 c = omega (arith, c .shared-slice-known2 .given (2 * c .before .before .before .before .before .before .args .n + c .before .before .before .before .loop .v))
@@ -51,17 +30,10 @@ cast-if2 c = omega (arith, c .shared-slice-known2 .given (2 * c .before .before 
 returns : tie.Need-returns Inv-loop μ-loop
 returns c = first-found _ _ _ _ _ (omega arith) (c .before .before .before .before .before .loop .inv .1) (sym (c .before .before .if1 .taken) ∙ c .before .before .before .is-member .ensures) (c .if2 .taken)
 
--- src/choose.rt:69:9
-add-v : tie.Need-add-v Inv-loop μ-loop
-add-v c = search needs
-
--- src/choose.rt:63:5
-loop-less : tie.Need-loop-less Inv-loop μ-loop
-loop-less c = search needs
-
 -- src/choose.rt:63:5
 loop-again : tie.Need-loop-again Inv-loop μ-loop
-loop-again c = let l = c .before .before .before .loop in
+loop-again c =
+    let l = c .before .before .before .loop in
     ⊎-elim
     (λ w. (omega arith, none-noted-more _ _ _ _ _ (l .inv .1) (inr (w .2 .left))))
     (λ w. (omega arith, none-noted-more _ _ _ _ _ (l .inv .1) (inl (sym (w .left) ∙ c .before .is-member .ensures))))
@@ -69,7 +41,8 @@ loop-again c = let l = c .before .before .before .loop in
 
 -- src/choose.rt:58:1
 returns-2 : tie.Need-returns-2 Inv-loop μ-loop
-returns-2 c = let l = c .before .loop in
+returns-2 c =
+    let l = c .before .loop in
     let e : l .v ≡ c .before .before .before .args .n = omega arith in
     rw e (first-nowhere _ _ _ _ (rw e at (l .inv .1)))
 
@@ -80,14 +53,14 @@ first-noted-spec =
     Inv-loop
     μ-loop
     loop-holds
-    is-member-requires
-    mul-if2
-    add-if2
-    mul-if2-2
-    shared-slice-read-if2
+    (λ c κs. search needs)
+    (λ c. search needs)
+    (λ c. search needs)
+    (λ c. search needs)
+    (λ c. search needs)
     cast-if2
     returns
-    add-v
-    loop-less
+    (λ c. search needs)
+    (λ c. search needs)
     loop-again
     returns-2)

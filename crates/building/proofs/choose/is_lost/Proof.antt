@@ -1,11 +1,11 @@
-use Rattle.building.specs.Laws.Choosing.{none-marked-more}
-use mathlib.Core.Logic.{inl, inr}
+-- `building::choose::is_lost` meets its contract: no member below v carries a mark.
+-- Assumes nothing.
+use Rattle.building.specs.Laws.Choosing.{none-marked-more, NoneMarked, lost-found, lost-nowhere}
+use mathlib.Core.Logic.{inl, inr, ⊎-elim}
 use borrow.Author.Needs.{needs}
 use Prim.Native.Nat.{_≤_, _-_}
-use mathlib.Core.Path.{_≡_, refl, sym, ap, _∙_}
+use mathlib.Core.Path.{_≡_, sym, _∙_}
 use native.Mathlib.Omega.{arith}
-use mathlib.Core.Logic.{⊎-elim}
-use Rattle.building.specs.Laws.Choosing.{NoneMarked, lost-found, lost-nowhere}
 use Rattle.building.proofs.choose.is_lost.Statement.{statement}
 use Rattle.building.proofs.choose.is_lost.Tie as tie
 use Rattle.building.proofs.choose.is_lost.Reads as reads
@@ -22,41 +22,14 @@ abbrev μ-loop : tie.MeasureT-loop
 loop-holds : tie.Need-loop-holds Inv-loop μ-loop
 loop-holds c = (omega arith, λ k l m. absurd (omega arith))
 
--- src/choose.rt:92:12
-is-member-requires : tie.Need-is-member-requires Inv-loop μ-loop
-is-member-requires c κs = search needs
-
--- src/choose.rt:93:21
-mul-if2 : tie.Need-mul-if2 Inv-loop μ-loop
-mul-if2 c = search needs
-
--- src/choose.rt:93:21
-add-if2 : tie.Need-add-if2 Inv-loop μ-loop
-add-if2 c = search needs
-
--- src/choose.rt:93:16
-mul-if2-2 : tie.Need-mul-if2-2 Inv-loop μ-loop
-mul-if2-2 c = search needs
-
--- src/choose.rt:93:16
-shared-slice-read-if2 : tie.Need-shared-slice-read-if2 Inv-loop μ-loop
-shared-slice-read-if2 c = search needs
-
 -- src/choose.rt:94:17
 returns : tie.Need-returns Inv-loop μ-loop
 returns c = lost-found _ _ _ _ (omega arith) (sym (c .before .before .if1 .taken) ∙ c .before .before .before .is-member .ensures) (c .if2 .taken)
 
--- src/choose.rt:97:9
-add-v : tie.Need-add-v Inv-loop μ-loop
-add-v c = search needs
-
--- src/choose.rt:91:5
-loop-less : tie.Need-loop-less Inv-loop μ-loop
-loop-less c = search needs
-
 -- src/choose.rt:91:5
 loop-again : tie.Need-loop-again Inv-loop μ-loop
-loop-again c = let l = c .before .before .before .loop in
+loop-again c =
+    let l = c .before .before .before .loop in
     ⊎-elim
     (λ w. (omega arith, none-marked-more _ _ _ _ (l .inv .1) (inr (w .2 .left))))
     (λ w. (omega arith, none-marked-more _ _ _ _ (l .inv .1) (inl (sym (w .left) ∙ c .before .is-member .ensures))))
@@ -64,7 +37,8 @@ loop-again c = let l = c .before .before .before .loop in
 
 -- src/choose.rt:86:1
 returns-2 : tie.Need-returns-2 Inv-loop μ-loop
-returns-2 c = let l = c .before .loop in
+returns-2 c =
+    let l = c .before .loop in
     let e : l .v ≡ c .before .before .before .args .n = omega arith in
     lost-nowhere _ _ _ (rw e at (l .inv .1))
 
@@ -75,13 +49,13 @@ is-lost-spec =
     Inv-loop
     μ-loop
     loop-holds
-    is-member-requires
-    mul-if2
-    add-if2
-    mul-if2-2
-    shared-slice-read-if2
+    (λ c κs. search needs)
+    (λ c. search needs)
+    (λ c. search needs)
+    (λ c. search needs)
+    (λ c. search needs)
     returns
-    add-v
-    loop-less
+    (λ c. search needs)
+    (λ c. search needs)
     loop-again
     returns-2)

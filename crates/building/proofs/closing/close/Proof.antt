@@ -1,3 +1,5 @@
+-- `building::closing::close` meets its contract: refused by its head, or the pass ended and counted.
+-- Assumes nothing.
 use Rattle.building.specs.Laws.Close.{close-head, close-ends, close-counts, close-done, close-more}
 use native.Mathlib.Omega.{arith}
 use mathlib.Core.Path.{sym, _∙_}
@@ -10,83 +12,60 @@ use Rattle.building.proofs.closing.all_placed.Reads as all-placed-reads
 use Rattle.building.proofs.closing.end_pass.Reads as end-pass-reads
 use Rattle.building.proofs.head.head.Reads as head-reads
 
--- src/close.rt:88:9
-head-requires : tie.Need-head-requires
-head-requires c κs = search needs
-
--- src/close.rt:90:9
-same-length : tie.Need-same-length
-same-length c = search needs
-
--- src/close.rt:90:9
-same-length-2 : tie.Need-same-length-2
-same-length-2 c = search needs
-
--- src/close.rt:90:9
+-- src/closing.rt:90:9
 returns : tie.Need-returns
 returns c = rw (c .before .before .before .head .ensures .1) (close-head _ _ _ _ (c .before .before .before .head .ensures .0) (c .if1 .taken))
 
--- src/close.rt:96:5
+-- src/closing.rt:96:5
 end-pass-requires : tie.Need-end-pass-requires
-end-pass-requires c κs = let d = c .before .before .before .before .before .head .ensures in
+end-pass-requires c κs =
+    let d = c .before .before .before .before .before .head .ensures in
     let z = sym (d .0) ∙ c .before .before .if1 .left in
     rw (d .1) (close-ends _ _ _ z)
 
--- src/close.rt:97:18
-add-passes : tie.Need-add-passes
-add-passes c = let d = c .before .before .before .before .before .before .before .before .before .before .before .head .ensures in
-    let z = sym (d .0) ∙ c .before .before .before .before .before .before .before .before .if1 .left in
+-- src/closing.rt:97:18
+add-counted : tie.Need-add-counted
+add-counted c =
+    let d = c .before .before .before .before .before .before .before .before .before .before .head .ensures in
+    let z = sym (d .0) ∙ c .before .before .before .before .before .before .before .if1 .left in
     omega (arith, close-counts _ _ _ z)
 
--- src/close.rt:98:8
+-- src/closing.rt:98:8
 all-placed-requires : tie.Need-all-placed-requires
-all-placed-requires c κs = let d = c .before .before .before .before .before .before .before .before .before .before .before .before .head .ensures in
-    let z = sym (d .0) ∙ c .before .before .before .before .before .before .before .before .before .if1 .left in
+all-placed-requires c κs =
+    let d = c .before .before .before .before .before .before .before .before .before .before .before .head .ensures in
+    let z = sym (d .0) ∙ c .before .before .before .before .before .before .before .before .if1 .left in
     let e = close-ends _ _ _ z in
-    record { few = e .wide .few; long = omega (arith, e .wide .long, c .before .before .before .before .before .before .end-pass .ensures .same-long) }
+    record { few = e .wide .few; long = omega (arith, e .wide .long, c .before .before .before .before .before .end-pass .ensures .same-long) }
 
--- src/close.rt:99:9
-same-length-3 : tie.Need-same-length-3
-same-length-3 c = search needs
-
--- src/close.rt:99:9
-same-length-4 : tie.Need-same-length-4
-same-length-4 c = search needs
-
--- src/close.rt:99:9
+-- src/closing.rt:99:9
 returns-2 : tie.Need-returns-2
-returns-2 c = let d = c .before .before .before .before .before .before .before .before .before .before .before .before .before .before .head .ensures in
-    let z = sym (d .0) ∙ c .before .before .before .before .before .before .before .before .before .before .before .if1 .left in
-    close-done _ _ _ z _ _ (rw (d .1) at (c .before .before .before .before .before .before .before .before .end-pass .ensures)) (sym (c .if2 .taken) ∙ c .before .all-placed .ensures)
+returns-2 c =
+    let d = c .before .before .before .before .before .before .before .before .before .before .before .before .before .head .ensures in
+    let z = sym (d .0) ∙ c .before .before .before .before .before .before .before .before .before .before .if1 .left in
+    close-done _ _ _ z _ _ (rw (d .1) at (c .before .before .before .before .before .before .before .end-pass .ensures)) (sym (c .if2 .taken) ∙ c .before .all-placed .ensures)
 
--- src/close.rt:85:1
-same-length-5 : tie.Need-same-length-5
-same-length-5 c = search needs
-
--- src/close.rt:85:1
-same-length-6 : tie.Need-same-length-6
-same-length-6 c = search needs
-
--- src/close.rt:85:1
+-- src/closing.rt:85:1
 returns-3 : tie.Need-returns-3
-returns-3 c = let d = c .before .before .before .before .before .before .before .before .before .before .before .before .before .before .head .ensures in
-    let z = sym (d .0) ∙ c .before .before .before .before .before .before .before .before .before .before .before .if1 .left in
-    close-more _ _ _ z _ _ (rw (d .1) at (c .before .before .before .before .before .before .before .before .end-pass .ensures)) (sym (c .if2 .left) ∙ c .before .all-placed .ensures)
+returns-3 c =
+    let d = c .before .before .before .before .before .before .before .before .before .before .before .before .before .head .ensures in
+    let z = sym (d .0) ∙ c .before .before .before .before .before .before .before .before .before .before .if1 .left in
+    close-more _ _ _ z _ _ (rw (d .1) at (c .before .before .before .before .before .before .before .end-pass .ensures)) (sym (c .if2 .left) ∙ c .before .all-placed .ensures)
 
 pub close-spec : {M : Type 1} → statement M
 close-spec =
     tie.close
     (tie.spec
-    head-requires
-    same-length
-    same-length-2
+    (λ c κs. search needs)
+    (λ c. search needs)
+    (λ c. search needs)
     returns
     end-pass-requires
-    add-passes
+    add-counted
     all-placed-requires
-    same-length-3
-    same-length-4
+    (λ c. search needs)
+    (λ c. search needs)
     returns-2
-    same-length-5
-    same-length-6
+    (λ c. search needs)
+    (λ c. search needs)
     returns-3)

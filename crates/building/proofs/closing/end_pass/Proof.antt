@@ -1,3 +1,5 @@
+-- `building::closing::end_pass` meets its contract: gathered, labelled, placed, cleared.
+-- Assumes nothing.
 use Rattle.building.specs.Laws.Ending.{end-gatherable, end-labelable, end-closable, end-laid}
 use borrow.Author.Needs.{needs}
 use Rattle.building.proofs.closing.end_pass.Statement.{statement}
@@ -9,43 +11,19 @@ use Rattle.building.proofs.closing.place_all.Reads as place-all-reads
 use Rattle.building.proofs.pieces.gather.Reads as gather-reads
 use Rattle.building.proofs.words.wipe.Reads as wipe-reads
 
--- src/close.rt:51:5
+-- src/closing.rt:51:5
 gather-requires : tie.Need-gather-requires
 gather-requires c κs = end-gatherable _ _ _ _ (c .before .before .before .before .pre)
 
--- src/close.rt:52:5
+-- src/closing.rt:52:5
 label-all-requires : tie.Need-label-all-requires
 label-all-requires c κs = end-labelable _ _ _ _ (c .before .before .before .before .before .before .before .before .pre) _ (c .before .before .before .gather .ensures)
 
--- src/close.rt:53:5
+-- src/closing.rt:53:5
 place-all-requires : tie.Need-place-all-requires
 place-all-requires c κs = end-closable _ _ _ _ (c .before .before .before .before .before .before .before .before .before .before .before .before .before .pre) _ (c .before .before .before .before .before .before .before .before .gather .ensures) _ (c .before .before .before .before .label-all .ensures)
 
--- src/close.rt:54:16
-mul-wipe : tie.Need-mul-wipe
-mul-wipe c = search needs
-
--- src/close.rt:54:23
-mul-wipe-2 : tie.Need-mul-wipe-2
-mul-wipe-2 c = search needs
-
--- src/close.rt:54:5
-wipe-requires : tie.Need-wipe-requires
-wipe-requires c κs = search needs
-
--- src/close.rt:55:5
-wipe-requires-2 : tie.Need-wipe-requires-2
-wipe-requires-2 c κs = search needs
-
--- src/close.rt:47:1
-same-length : tie.Need-same-length
-same-length c = search needs
-
--- src/close.rt:47:1
-same-length-2 : tie.Need-same-length-2
-same-length-2 c = search needs
-
--- src/close.rt:47:1
+-- src/closing.rt:47:1
 returns : tie.Need-returns
 returns c = end-laid _ _ _ _ (c .before .before .before .before .before .before .before .before .before .before .before .before .before .before .before .before .before .before .before .before .before .before .before .before .pre) _ (c .before .before .before .before .before .before .before .before .before .before .before .before .before .before .before .before .before .before .before .gather .ensures) _ (c .before .before .before .before .before .before .before .before .before .before .before .before .before .before .before .label-all .ensures) _ (c .before .before .before .before .before .before .before .before .before .before .place-all .ensures) _ _ (c .before .before .before .before .before .before .wipe .ensures) (c .before .before .wipe2 .ensures)
 
@@ -56,10 +34,10 @@ end-pass-spec =
     gather-requires
     label-all-requires
     place-all-requires
-    mul-wipe
-    mul-wipe-2
-    wipe-requires
-    wipe-requires-2
-    same-length
-    same-length-2
+    (λ c. search needs)
+    (λ c. search needs)
+    (λ c κs. search needs)
+    (λ c κs. search needs)
+    (λ c. search needs)
+    (λ c. search needs)
     returns)

@@ -7,65 +7,48 @@ use Rattle.building.specs.Laws.Telling.{room-is}
 use borrow.Author.Needs.{needs}
 use Rattle.building.proofs.hold.has_room.Statement.{statement}
 use Rattle.building.proofs.hold.has_room.Tie as tie
-use Rattle.building.proofs.hold.has_room.Reads as reads
-use Rattle.building.proofs.hold.has_room.Lts as lts
-use Rattle.building.proofs.tables.wide.Reads as wide-reads
 
--- src/hold.rt:25:27
 mul-wide : tie.Need-mul-wide
 mul-wide c = search needs
 
--- src/hold.rt:25:27
 add-wide : tie.Need-add-wide
 add-wide c = search needs
 
--- src/hold.rt:25:22
 mul-wide-2 : tie.Need-mul-wide-2
 mul-wide-2 c = search needs
 
--- src/hold.rt:25:22
 shared-slice-read-wide : tie.Need-shared-slice-read-wide
 shared-slice-read-wide c = search needs
 
--- src/hold.rt:25:9
 wide-requires : tie.Need-wide-requires
 wide-requires c κs = search needs
 
--- src/hold.rt:26:26
 mul-wide-3 : tie.Need-mul-wide-3
 mul-wide-3 c = search needs
 
--- src/hold.rt:26:26
 add-wide-2 : tie.Need-add-wide-2
 add-wide-2 c = search needs
 
--- src/hold.rt:26:21
 mul-wide-4 : tie.Need-mul-wide-4
 mul-wide-4 c = search needs
 
--- src/hold.rt:26:21
 shared-slice-read-wide-2 : tie.Need-shared-slice-read-wide-2
 shared-slice-read-wide-2 c = search needs
 
--- src/hold.rt:26:16
 wide-requires-2 : tie.Need-wide-requires-2
 wide-requires-2 c κs = search needs
 
--- src/hold.rt:26:16
 add-size : tie.Need-add-size
 add-size c = search needs
 
--- src/hold.rt:27:13
 mul-result : tie.Need-mul-result
 mul-result c =
     let h : c .wide2 .result + 1 ≤ 4294967296 = omega (arith, c .wide2 .ensures) in
     omega (arith, mul-le-mul (c .before .before .before .before .before .pre .few-room) h)
 
--- src/hold.rt:27:13
 sub-result : tie.Need-sub-result
 sub-result c = search needs
 
--- src/hold.rt:21:1
 returns : tie.Need-returns
 returns c = room-is _ _ _ _ _ _ (c .before .before .wide .ensures .says) (c .wide2 .ensures .says)
 

@@ -1,30 +1,23 @@
 -- `building::hold::word` meets its contract: the word of a held link.
 -- Assumes nothing.
-use mathlib.Core.Path.{_≡_, refl, sym, ap, _∙_}
+use mathlib.Core.Path.{refl}
 use Rattle.state.specs.Layout.{wordOf}
 use borrow.Author.Needs.{needs}
 use Rattle.building.proofs.hold.word.Statement.{statement}
 use Rattle.building.proofs.hold.word.Tie as tie
-use Rattle.building.proofs.hold.word.Reads as reads
-use Rattle.building.proofs.hold.word.Lts as lts
 
--- src/hold.rt:18:5
 cast-result : tie.Need-cast-result
 cast-result c = search needs
 
--- src/hold.rt:18:5
 mul-result : tie.Need-mul-result
 mul-result c = search needs
 
--- src/hold.rt:18:24
 cast-result-2 : tie.Need-cast-result-2
 cast-result-2 c = search needs
 
--- src/hold.rt:18:5
 add-result : tie.Need-add-result
 add-result c = search needs
 
--- src/hold.rt:14:1
 returns : tie.Need-returns
 unfolding wordOf
 returns c = refl

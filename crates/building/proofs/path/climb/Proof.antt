@@ -1,11 +1,11 @@
-use Rattle.building.specs.Laws.Saving.{wide-by}
+-- `building::path::climb` meets its contract: what is left of the path keeps the rest.
+-- Assumes nothing.
+use Rattle.building.specs.Laws.Saving.{wide-by, Climbing, climbing-starts, climbing-up, climbing-ends}
 use Rattle.state.specs.Laws.Layout.{level-word}
 use Rattle.state.specs.Layout.{bare}
 use mathlib.Core.List.{[]}
 use borrow.Author.Needs.{needs}
-use Prim.Native.Nat.{_≤_, _-_}
 use native.Mathlib.Omega.{arith}
-use Rattle.building.specs.Laws.Saving.{Climbing, climbing-starts, climbing-up, climbing-ends}
 use Rattle.building.proofs.path.climb.Statement.{statement}
 use Rattle.building.proofs.path.climb.Tie as tie
 use Rattle.building.proofs.path.climb.Reads as reads
@@ -17,30 +17,6 @@ Inv-loop frag₀ n top deepest v₀ left₀ frag v left = Climbing n top deepest
 
 abbrev μ-loop : tie.MeasureT-loop
 μ-loop frag₀ n top deepest v₀ left₀ frag v left = left
-
--- src/path.rt:35:25
-add-left : tie.Need-add-left Inv-loop μ-loop
-add-left c = search needs
-
--- src/path.rt:35:20
-mul-left : tie.Need-mul-left Inv-loop μ-loop
-mul-left c = search needs
-
--- src/path.rt:35:20
-slice-read-left : tie.Need-slice-read-left Inv-loop μ-loop
-slice-read-left c = search needs
-
--- src/path.rt:35:45
-add-left-2 : tie.Need-add-left-2 Inv-loop μ-loop
-add-left-2 c = search needs
-
--- src/path.rt:35:40
-mul-left-2 : tie.Need-mul-left-2 Inv-loop μ-loop
-mul-left-2 c = search needs
-
--- src/path.rt:35:40
-slice-read-left-2 : tie.Need-slice-read-left-2 Inv-loop μ-loop
-slice-read-left-2 c = search needs
 
 -- src/path.rt:35:20
 sub-left : tie.Need-sub-left Inv-loop μ-loop
@@ -55,24 +31,8 @@ keep-requires : tie.Need-keep-requires Inv-loop μ-loop
 keep-requires c κs = let l = c .before .before .loop in (wide-by (l .inv .beside .same-long) (c .before .before .before .before .before .before .pre .wide), l .inv .in-range)
 
 -- src/path.rt:38:13
-mul-v : tie.Need-mul-v Inv-loop μ-loop
-mul-v c = search needs
-
--- src/path.rt:38:13
-slice-read-v : tie.Need-slice-read-v Inv-loop μ-loop
-slice-read-v c = search needs
-
--- src/path.rt:38:13
 cast-v : tie.Need-cast-v Inv-loop μ-loop
 cast-v c = omega (arith, c .slice-known5 .given (c .before .before .before .before .before .before .loop .v))
-
--- src/path.rt:39:9
-sub-left-2 : tie.Need-sub-left-2 Inv-loop μ-loop
-sub-left-2 c = search needs
-
--- src/path.rt:36:5
-loop-less : tie.Need-loop-less Inv-loop μ-loop
-loop-less c = search needs
 
 -- src/path.rt:36:5
 loop-again : tie.Need-loop-again Inv-loop μ-loop
@@ -81,10 +41,6 @@ loop-again c = let l = c .before .before .before .before .before .before .loop i
 -- src/path.rt:41:5
 keep-requires-2 : tie.Need-keep-requires-2 Inv-loop μ-loop
 keep-requires-2 c κs = let l = c .before .before .loop in (wide-by (l .inv .beside .same-long) (c .before .before .before .before .before .before .pre .wide), l .inv .in-range)
-
--- src/path.rt:30:1
-same-length : tie.Need-same-length Inv-loop μ-loop
-same-length c = search needs
 
 -- src/path.rt:30:1
 returns : tie.Need-returns Inv-loop μ-loop
@@ -96,21 +52,21 @@ climb-spec =
     (tie.spec
     Inv-loop
     μ-loop
-    add-left
-    mul-left
-    slice-read-left
-    add-left-2
-    mul-left-2
-    slice-read-left-2
+    (λ c. search needs)
+    (λ c. search needs)
+    (λ c. search needs)
+    (λ c. search needs)
+    (λ c. search needs)
+    (λ c. search needs)
     sub-left
     loop-holds
     keep-requires
-    mul-v
-    slice-read-v
+    (λ c. search needs)
+    (λ c. search needs)
     cast-v
-    sub-left-2
-    loop-less
+    (λ c. search needs)
+    (λ c. search needs)
     loop-again
     keep-requires-2
-    same-length
+    (λ c. search needs)
     returns)

@@ -1,3 +1,5 @@
+-- `building::path::copy` meets its contract: after i turns i words stand copied, and no other word changed.
+-- Assumes nothing.
 use mathlib.Core.Path.{_≡_}
 use borrow.Author.Needs.{needs}
 use Prim.Native.Nat.{_≤_, _-_}
@@ -19,49 +21,14 @@ abbrev μ-loop : tie.MeasureT-loop
 loop-holds : tie.Need-loop-holds Inv-loop μ-loop
 loop-holds c = (omega arith, copies-none _ _ _)
 
--- src/path.rt:15:31
-add-words : tie.Need-add-words Inv-loop μ-loop
-add-words c = search needs
-
--- src/path.rt:15:25
-mul-words : tie.Need-mul-words Inv-loop μ-loop
-mul-words c = search needs
-
--- src/path.rt:15:25
-slice-read-words : tie.Need-slice-read-words Inv-loop μ-loop
-slice-read-words c = search needs
-
--- src/path.rt:15:15
-add-words-2 : tie.Need-add-words-2 Inv-loop μ-loop
-add-words-2 c = search needs
-
--- src/path.rt:15:9
-mul-words-2 : tie.Need-mul-words-2 Inv-loop μ-loop
-mul-words-2 c = search needs
-
--- src/path.rt:15:9
-slice-write-words : tie.Need-slice-write-words Inv-loop μ-loop
-slice-write-words c = search needs
-
--- src/path.rt:16:9
-add-i : tie.Need-add-i Inv-loop μ-loop
-add-i c = search needs
-
--- src/path.rt:14:5
-loop-less : tie.Need-loop-less Inv-loop μ-loop
-loop-less c = search needs
-
 -- src/path.rt:14:5
 loop-again : tie.Need-loop-again Inv-loop μ-loop
 loop-again c = let l = c .before .before .loop in (omega arith, copies-more _ _ _ _ _ _ (c .before .before .before .pre) (omega arith) (l .inv .1))
 
 -- src/path.rt:9:1
-same-length : tie.Need-same-length Inv-loop μ-loop
-same-length c = search needs
-
--- src/path.rt:9:1
 returns : tie.Need-returns Inv-loop μ-loop
-returns c = let l = c .before .loop in
+returns c =
+    let l = c .before .loop in
     let e : l .i ≡ c .before .before .args .m = omega arith in
     rw e at (l .inv .1)
 
@@ -72,14 +39,14 @@ copy-spec =
     Inv-loop
     μ-loop
     loop-holds
-    add-words
-    mul-words
-    slice-read-words
-    add-words-2
-    mul-words-2
-    slice-write-words
-    add-i
-    loop-less
+    (λ c. search needs)
+    (λ c. search needs)
+    (λ c. search needs)
+    (λ c. search needs)
+    (λ c. search needs)
+    (λ c. search needs)
+    (λ c. search needs)
+    (λ c. search needs)
     loop-again
-    same-length
+    (λ c. search needs)
     returns)

@@ -1,3 +1,5 @@
+-- `building::path::place_piece` meets its contract: by the choices for the piece, either way as the rules do.
+-- Assumes nothing.
 use Rattle.building.specs.Laws.Placing.{due-hanging, piece-path, piece-whole}
 use mathlib.Core.Path.{sym, _∙_}
 use borrow.Author.Needs.{needs}
@@ -11,18 +13,6 @@ use Rattle.building.proofs.choose.top_of.Reads as top-of-reads
 use Rattle.building.proofs.path.place_path.Reads as place-path-reads
 use Rattle.building.proofs.path.place_whole.Reads as place-whole-reads
 
--- src/path.rt:70:9
-best-note-requires : tie.Need-best-note-requires
-best-note-requires c κs = search needs
-
--- src/path.rt:71:9
-top-of-requires : tie.Need-top-of-requires
-top-of-requires c κs = search needs
-
--- src/path.rt:72:8
-is-lost-requires : tie.Need-is-lost-requires
-is-lost-requires c κs = search needs
-
 -- src/path.rt:73:9
 place-path-requires : tie.Need-place-path-requires
 place-path-requires c κs = due-hanging _ _ _ _ _ (c .before .before .before .before .before .before .before .before .before .before .pre) _ _ (c .before .before .before .before .before .before .best-note .ensures .0) (c .before .before .before .before .top-of .ensures) (c .before .before .before .before .before .before .best-note .ensures .1)
@@ -32,16 +22,8 @@ place-whole-requires : tie.Need-place-whole-requires
 place-whole-requires c κs = due-hanging _ _ _ _ _ (c .before .before .before .before .before .before .before .before .before .before .pre) _ _ (c .before .before .before .before .before .before .best-note .ensures .0) (c .before .before .before .before .top-of .ensures) (c .before .before .before .before .before .before .best-note .ensures .1)
 
 -- src/path.rt:66:1
-same-length : tie.Need-same-length
-same-length c = search needs
-
--- src/path.rt:66:1
 returns : tie.Need-returns
 returns c = piece-path _ _ _ _ _ (c .before .before .before .before .before .before .before .before .before .before .before .before .before .pre) _ _ (c .before .before .before .before .before .before .before .before .before .best-note .ensures .0) (c .before .before .before .before .before .before .before .top-of .ensures) _ (sym (c .before .before .before .before .if1 .taken) ∙ c .before .before .before .before .before .is-lost .ensures) (c .before .before .place-path .ensures)
-
--- src/path.rt:66:1
-same-length-2 : tie.Need-same-length-2
-same-length-2 c = search needs
 
 -- src/path.rt:66:1
 returns-2 : tie.Need-returns-2
@@ -51,12 +33,12 @@ pub place-piece-spec : {M : Type 1} → statement M
 place-piece-spec =
     tie.close
     (tie.spec
-    best-note-requires
-    top-of-requires
-    is-lost-requires
+    (λ c κs. search needs)
+    (λ c κs. search needs)
+    (λ c κs. search needs)
     place-path-requires
     place-whole-requires
-    same-length
+    (λ c. search needs)
     returns
-    same-length-2
+    (λ c. search needs)
     returns-2)

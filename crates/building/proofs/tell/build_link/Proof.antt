@@ -5,81 +5,61 @@ use Rattle.building.specs.Laws.Telling.{notable, build-skip, build-note-
 use borrow.Author.Needs.{needs}
 use Rattle.building.proofs.tell.build_link.Statement.{statement}
 use Rattle.building.proofs.tell.build_link.Tie as tie
-use Rattle.building.proofs.tell.build_link.Reads as reads
-use Rattle.building.proofs.tell.build_link.Lts as lts
-use Rattle.building.proofs.hold.hold_link.Reads as hold-link-reads
-use Rattle.building.proofs.tables.rank_at.Reads as rank-at-reads
-use Rattle.building.proofs.tell.note_link.Reads as note-link-reads
 
--- src/tell.rt:27:8
 rank-at-requires : tie.Need-rank-at-requires
 rank-at-requires c κs = search needs
 
--- src/tell.rt:28:12
 rank-at-requires-2 : tie.Need-rank-at-requires-2
 rank-at-requires-2 c κs = search needs
 
--- src/tell.rt:29:13
 same-length : tie.Need-same-length
 same-length c = search needs
 
--- src/tell.rt:29:13
 returns : tie.Need-returns
 returns c =
     let p = c .before .before .before .before .before .before .before .before .pre in
     build-skip (p .0) (p .1) _ _ (c .before .before .before .before .rank-at .ensures .says) (c .before .rank-at2 .ensures .says) (c .before .before .before .if1 .taken) (c .if2 .taken)
 
--- src/tell.rt:31:9
 note-link-requires : tie.Need-note-link-requires
 note-link-requires c κs =
     let p = c .before .before .before .before .before .before .before .before .before .pre in
     notable (p .0) _ _ (p .1 .second) (p .1 .first)
 
--- src/tell.rt:32:9
 same-length-2 : tie.Need-same-length-2
 same-length-2 c = search needs
 
--- src/tell.rt:32:9
 returns-2 : tie.Need-returns-2
 returns-2 c =
     let p = c .before .before .before .before .before .before .before .before .before .before .before .before .pre in
     build-note-second (p .0) (p .1) _ _ (c .before .before .before .before .before .before .before .before .rank-at .ensures .says) (c .before .before .before .before .before .rank-at2 .ensures .says) (c .before .before .before .before .before .before .before .if1 .taken) (omega arith) _ (c .before .before .note-link .ensures)
 
--- src/tell.rt:34:8
 rank-at-requires-3 : tie.Need-rank-at-requires-3
 rank-at-requires-3 c κs = search needs
 
--- src/tell.rt:35:9
 note-link-requires-2 : tie.Need-note-link-requires-2
 note-link-requires-2 c κs =
     let p = c .before .before .before .before .before .before .before .before .before .pre in
     notable (p .0) _ _ (p .1 .first) (p .1 .second)
 
--- src/tell.rt:36:9
 same-length-3 : tie.Need-same-length-3
 same-length-3 c = search needs
 
--- src/tell.rt:36:9
 returns-3 : tie.Need-returns-3
 returns-3 c =
     let p = c .before .before .before .before .before .before .before .before .before .before .before .before .pre in
     build-note-first (p .0) (p .1) _ _ (c .before .before .before .before .before .before .before .before .rank-at .ensures .says) (c .before .before .before .before .before .rank-at3 .ensures .says) (omega arith) (c .before .before .before .before .if3 .taken) _ (c .before .before .note-link2 .ensures)
 
--- src/tell.rt:38:5
 hold-link-requires : tie.Need-hold-link-requires
 hold-link-requires c κs =
     let p = c .before .before .before .before .before .before .before .before .before .before .pre in
     build-between (p .0) (p .1) _ _ (c .before .before .before .before .before .before .rank-at .ensures .says) (c .before .before .before .rank-at3 .ensures .says) (omega arith) (omega arith)
 
--- src/tell.rt:23:1
 same-length-4 : tie.Need-same-length-4
 same-length-4 c = search needs
 
--- src/tell.rt:23:1
 same-length-5 : tie.Need-same-length-5
 same-length-5 c = search needs
 
--- src/tell.rt:23:1
 returns-4 : tie.Need-returns-4
 returns-4 c =
     let p = c .before .before .before .before .before .before .before .before .before .before .before .before .before .before .before .pre in

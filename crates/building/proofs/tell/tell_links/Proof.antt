@@ -9,10 +9,6 @@ use Rattle.lists.specs.Told.{toldLink}
 use Rattle.building.specs.Laws.Telling.{Midway, midway-starts, midway-bad, midway-end, midway-link, midway-ends, midway-next}
 use Rattle.building.proofs.tell.tell_links.Statement.{statement}
 use Rattle.building.proofs.tell.tell_links.Tie as tie
-use Rattle.building.proofs.tell.tell_links.Reads as reads
-use Rattle.building.proofs.tell.tell_links.Lts as lts
-use Rattle.building.proofs.tell.build_link.Reads as build-link-reads
-use Rattle.lists.proofs.link_at.Reads as link-at-reads
 
 abbrev Inv-loop : tie.InvT-loop
 Inv-loop frag₀ held₀ n k first entries block count₀ told₀ at₀ frag held count told at = Midway n k first entries block frag₀ held₀ count frag held told at
@@ -20,75 +16,58 @@ Inv-loop frag₀ held₀ n k first entries block count₀ told₀ at₀ frag hel
 abbrev μ-loop : tie.MeasureT-loop
 μ-loop frag₀ held₀ n k first entries block count₀ told₀ at₀ frag held count told at = length block - at
 
--- src/tell.rt:49:5
 loop-holds : tie.Need-loop-holds Inv-loop μ-loop
 loop-holds c =
     let p = c .before .before .before .pre in
     midway-starts (p .0) (p .1)
 
--- src/tell.rt:50:30
 cast-link-at : tie.Need-cast-link-at Inv-loop μ-loop
 cast-link-at c = omega (arith, c .before .loop .inv .leaves .telling .few-fragments)
 
--- src/tell.rt:50:15
 link-at-requires : tie.Need-link-at-requires Inv-loop μ-loop
 link-at-requires c κs = search needs
 
--- src/tell.rt:51:24
 enum-known-a : tie.Need-enum-known-a Inv-loop μ-loop
 enum-known-a c = search needs
 
--- src/tell.rt:52:61
 cast-build-link : tie.Need-cast-build-link Inv-loop μ-loop
 cast-build-link c = search needs
 
--- src/tell.rt:52:73
 cast-build-link-2 : tie.Need-cast-build-link-2 Inv-loop μ-loop
 cast-build-link-2 c = search needs
 
--- src/tell.rt:52:17
 build-link-requires : tie.Need-build-link-requires Inv-loop μ-loop
 build-link-requires c κs =
     let m = c .before .before .before .before .before .before .before .loop .inv in
     (m .leaves .telling, midway-ends m _ _ _ (sym (c .before .before .before .before .before .link-at .ensures) ∙ ap toldLink (c .before .before .before .a .given .1)))
 
--- src/tell.rt:53:17
 add-told : tie.Need-add-told Inv-loop μ-loop
 add-told c = omega (arith, midway-link (c .before .before .before .before .before .before .before .before .before .before .before .before .loop .inv) _ _ _ (sym (c .before .before .before .before .before .before .before .before .before .before .link-at .ensures) ∙ ap toldLink (c .before .before .before .before .before .before .before .before .a .given .1)))
 
--- src/tell.rt:49:5
 loop-less : tie.Need-loop-less Inv-loop μ-loop
 loop-less c = omega (arith, midway-link (c .before .before .before .before .before .before .before .before .before .before .before .before .loop .inv) _ _ _ (sym (c .before .before .before .before .before .before .before .before .before .before .link-at .ensures) ∙ ap toldLink (c .before .before .before .before .before .before .before .before .a .given .1)))
 
--- src/tell.rt:49:5
 loop-again : tie.Need-loop-again Inv-loop μ-loop
 loop-again c = midway-next (c .before .before .before .before .before .before .before .before .before .before .before .before .loop .inv) _ _ _ (sym (c .before .before .before .before .before .before .before .before .before .before .link-at .ensures) ∙ ap toldLink (c .before .before .before .before .before .before .before .before .a .given .1)) (c .before .before .before .before .build-link .ensures)
 
--- src/tell.rt:57:17
 enum-told : tie.Need-enum-told Inv-loop μ-loop
 enum-told c = search needs
 
--- src/tell.rt:57:17
 same-length : tie.Need-same-length Inv-loop μ-loop
 same-length c = c .before .before .before .before .loop .inv .leaves .frag-length
 
--- src/tell.rt:57:17
 same-length-2 : tie.Need-same-length-2 Inv-loop μ-loop
 same-length-2 c = c .before .before .before .before .loop .inv .leaves .held-length
 
--- src/tell.rt:57:17
 returns : tie.Need-returns Inv-loop μ-loop
 returns c = absurd (midway-bad (c .before .before .before .before .loop .inv) _ _ (c .before .before .before .loop-test .taken) (sym (c .before .before .link-at .ensures) ∙ ap toldLink (c .enum-told .given .1)))
 
--- src/tell.rt:42:1
 same-length-3 : tie.Need-same-length-3 Inv-loop μ-loop
 same-length-3 c = c .before .loop .inv .leaves .frag-length
 
--- src/tell.rt:42:1
 same-length-4 : tie.Need-same-length-4 Inv-loop μ-loop
 same-length-4 c = c .before .loop .inv .leaves .held-length
 
--- src/tell.rt:42:1
 returns-2 : tie.Need-returns-2 Inv-loop μ-loop
 returns-2 c = midway-end (c .before .loop .inv) (omega arith)
 

@@ -1,9 +1,11 @@
+-- `building::walk::nearer` meets its contract: by the word of the level.
+-- Assumes nothing.
 use Rattle.state.specs.Laws.Layout.{level-word}
 use Rattle.state.specs.Layout.{bare}
 use native.Mathlib.Omega.{arith}
 use mathlib.Core.List.{[]}
 use mathlib.Core.Logic.{inl, inr}
-use mathlib.Core.Path.{_≡_, refl, sym, _∙_}
+use mathlib.Core.Path.{refl, sym, _∙_}
 use borrow.Author.Needs.{needs}
 use Rattle.building.proofs.walk.nearer.Statement.{statement}
 use Rattle.building.proofs.walk.nearer.Tie as tie
@@ -13,18 +15,6 @@ use Rattle.building.proofs.walk.nearer.Lts as lts
 -- src/walk.rt:31:9
 returns : tie.Need-returns
 returns c = inr (refl, inl (omega arith))
-
--- src/walk.rt:33:13
-add-if2 : tie.Need-add-if2
-add-if2 c = search needs
-
--- src/walk.rt:33:8
-mul-if2 : tie.Need-mul-if2
-mul-if2 c = search needs
-
--- src/walk.rt:33:8
-shared-slice-read-if2 : tie.Need-shared-slice-read-if2
-shared-slice-read-if2 c = search needs
 
 -- src/walk.rt:34:9
 returns-2 : tie.Need-returns-2
@@ -36,4 +26,4 @@ returns-3 c = let a = c .before .before .before .args in inl (refl, omega arith,
 
 pub nearer-spec : {M : Type 1} → statement M
 nearer-spec =
-    tie.close (tie.spec returns add-if2 mul-if2 shared-slice-read-if2 returns-2 returns-3)
+    tie.close (tie.spec returns (λ c. search needs) (λ c. search needs) (λ c. search needs) returns-2 returns-3)

@@ -1,5 +1,7 @@
+-- `building::walk::next_of` meets its contract: after i turns it has the smallest unplaced neighbour by the first i links.
+-- Assumes nothing.
 use Rattle.building.specs.Laws.Walking.{Next, next-none-yet, next-turn, next-found}
-use Rattle.building.specs.Closing.{tablesAt}
+use Rattle.building.specs.Telling.{heldTables}
 use native.Mathlib.Omega.{arith}
 use mathlib.Core.Path.{_≡_}
 use Prim.Native.Nat.{_≤_, _-_}
@@ -12,7 +14,7 @@ use Rattle.building.proofs.walk.nearer.Reads as nearer-reads
 use Rattle.building.proofs.walk.other_end.Reads as other-end-reads
 
 abbrev Inv-loop : tie.InvT-loop
-Inv-loop frag held n count v best₀ i₀ best i = (i ≤ count) × Next n (tablesAt n count frag held) held v i best
+Inv-loop frag held n count v best₀ i₀ best i = (i ≤ count) × Next n (heldTables n count frag held) held v i best
 
 abbrev μ-loop : tie.MeasureT-loop
 μ-loop frag held n count v best₀ i₀ best i = count - i
@@ -21,29 +23,14 @@ abbrev μ-loop : tie.MeasureT-loop
 loop-holds : tie.Need-loop-holds Inv-loop μ-loop
 loop-holds c = (omega arith, next-none-yet _ _ _ _)
 
--- src/walk.rt:47:13
-other-end-requires : tie.Need-other-end-requires Inv-loop μ-loop
-other-end-requires c κs = search needs
-
--- src/walk.rt:48:9
-nearer-requires : tie.Need-nearer-requires Inv-loop μ-loop
-nearer-requires c κs = search needs
-
--- src/walk.rt:49:9
-add-i : tie.Need-add-i Inv-loop μ-loop
-add-i c = search needs
-
--- src/walk.rt:46:5
-loop-less : tie.Need-loop-less Inv-loop μ-loop
-loop-less c = search needs
-
 -- src/walk.rt:46:5
 loop-again : tie.Need-loop-again Inv-loop μ-loop
 loop-again c = let l = c .before .before .before .loop in (omega arith, next-turn _ _ _ _ _ _ _ _ _ (omega arith) (l .inv .1) (c .before .other-end .ensures) (c .nearer .ensures))
 
 -- src/walk.rt:40:1
 returns : tie.Need-returns Inv-loop μ-loop
-returns c = let l = c .before .loop in
+returns c =
+    let l = c .before .loop in
     let e : l .i ≡ c .before .before .before .before .args .count = omega arith in
     next-found _ _ _ _ _ _ (rw e at (l .inv .1))
 
@@ -54,9 +41,9 @@ next-of-spec =
     Inv-loop
     μ-loop
     loop-holds
-    other-end-requires
-    nearer-requires
-    add-i
-    loop-less
+    (λ c κs. search needs)
+    (λ c κs. search needs)
+    (λ c. search needs)
+    (λ c. search needs)
     loop-again
     returns)

@@ -1,3 +1,5 @@
+-- `building::walk::other_end` meets its contract: one law for each answer.
+-- Assumes nothing.
 use Rattle.building.specs.Laws.Walking.{other-larger, other-smaller, other-none}
 use mathlib.Core.Path.{sym, _∙_}
 use borrow.Author.Needs.{needs}
@@ -7,14 +9,6 @@ use Rattle.building.proofs.walk.other_end.Reads as reads
 use Rattle.building.proofs.walk.other_end.Lts as lts
 use Rattle.building.proofs.words.high_end.Reads as high-end-reads
 use Rattle.building.proofs.words.low_end.Reads as low-end-reads
-
--- src/walk.rt:14:9
-low-end-requires : tie.Need-low-end-requires
-low-end-requires c κs = search needs
-
--- src/walk.rt:15:9
-high-end-requires : tie.Need-high-end-requires
-high-end-requires c κs = search needs
 
 -- src/walk.rt:17:9
 returns : tie.Need-returns
@@ -30,4 +24,4 @@ returns-3 c = other-none _ _ _ _ (λ e. c .before .if1 .left (c .before .before 
 
 pub other-end-spec : {M : Type 1} → statement M
 other-end-spec =
-    tie.close (tie.spec low-end-requires high-end-requires returns returns-2 returns-3)
+    tie.close (tie.spec (λ c κs. search needs) (λ c κs. search needs) returns returns-2 returns-3)
