@@ -7,15 +7,13 @@ use lib.ListN.{length}
 use lib.Dec.{ltb, eqb}
 use Rattle.base.specs.Pick.{pick}
 use Rattle.base.specs.Answer.{Answer, gives, refuses}
+-- 'n: 1 to 32,768.'
+pub use Rattle.lists.specs.List.{fragmentsMost}
 use Rattle.rules.specs.Tables.{Tables}
 use Rattle.state.specs.Layout.{words, fragOf, heldOf}
 use Rattle.state.specs.Test.{sound}
 use Rattle.state.specs.declared.State.{State}
 use Rattle.state.specs.declared.Stage.{Stage}
-
--- 'n: 1 to 32,768.'
-abbrev pub fragmentsMost : ℕ
-fragmentsMost = 32768
 
 -- 'Room k: 1 to 64.'
 abbrev pub roomMost : ℕ

@@ -5,6 +5,8 @@ use mathlib.Core.Bool.{Bool, true, false, _||_, _&&_, not}
 use mathlib.Core.List.{List, [], _∷_}
 use lib.ListN.{length, getD, take, drop}
 use lib.Dec.{ltb, leb, eqb}
+-- 'Entries in one pass: at most 16,777,215.'
+pub use Rattle.lists.specs.List.{entriesMost}
 use Rattle.rules.specs.Links.{Link, linked}
 use Rattle.rules.specs.Search.{count, every}
 use Rattle.rules.specs.Tables.{Tables, parentOf, rank, noteOf, markOf, placed, lev}
@@ -14,10 +16,6 @@ use Rattle.state.specs.Layout.{words, stored, tablesIn}
 use Rattle.state.specs.declared.State.{State}
 use Rattle.state.specs.declared.Stage.{Stage}
 use Rattle.state.specs.declared.Stage.the-variants.{Building, Built, Reading, Read}
-
--- 'Entries in one pass: at most 16,777,215.'
-abbrev pub entriesMost : ℕ
-entriesMost = 16777215
 
 abbrev pub isBuilding : Stage → Bool
 isBuilding Building = true

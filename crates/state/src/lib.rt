@@ -91,11 +91,11 @@ pub fn bounds(n: usize, k: usize, frags: usize, helds: usize) -> u32
 
 impl State {
     // The limits of document 01, 'Numbers that bound it'.
-    pub const FRAGMENTS: usize = 32768;
+    pub const FRAGMENTS: usize = lists::FRAGMENTS_MOST as usize;
 
     pub const ROOM: usize = 64;
 
-    pub const ENTRIES: usize = 16777215;
+    pub const ENTRIES: usize = lists::ENTRIES_MOST as usize;
     // Words of the fragment table for each fragment.
     pub const WORDS: usize = 16;
 
