@@ -1,9 +1,9 @@
 -- The building rules B1 to B6, in document 01's order. Definitions only.
 -- Assumes nothing.
-use Prim.Native.Nat.{ℕ, zero, suc, pred, _+_, _-_, _*_, min, max}
-use mathlib.Core.Bool.{Bool, true, false, _&&_, _||_, not}
+use Prim.Native.Nat.{ℕ, zero, suc, pred, _-_, _*_, min, max}
+use mathlib.Core.Bool.{Bool, _&&_, not}
 use mathlib.Core.List.{List, [], _∷_, _++_, map}
-use lib.ListN.{getD, length}
+use lib.ListN.{getD}
 use lib.Dec.{ltb, eqb}
 use Rattle.base.specs.Pick.{pick}
 use Rattle.rules.specs.Links.{Link, linked, tally}

@@ -1,14 +1,14 @@
 -- The reading rules and the questions, in document 01's order. Definitions only.
 -- Assumes nothing.
-use Prim.Native.Nat.{ℕ, zero, suc, _-_, max}
-use mathlib.Core.Bool.{Bool, true, false, _&&_, _||_, not}
+use Prim.Native.Nat.{ℕ, _-_, max}
+use mathlib.Core.Bool.{Bool, true, _&&_, _||_, not}
 use mathlib.Core.List.{List, [], _∷_}
 use lib.Dec.{ltb, leb, eqb}
 use Rattle.base.specs.Pick.{pick}
 use Rattle.rules.specs.Links.{Link}
 use Rattle.rules.specs.Forest.{up}
 use Rattle.rules.specs.Search.{count, some, every, first, least}
-use Rattle.rules.specs.Tables.{Tables, parentOf, noteOf, markOf, par, lev, putNote, putMark, putCrossed}
+use Rattle.rules.specs.Tables.{Tables, noteOf, markOf, par, lev, putNote, putMark, putCrossed}
 
 -- a is on b's way to the root; b itself counts.
 unfoldable pub above : Tables → ℕ → ℕ → Bool

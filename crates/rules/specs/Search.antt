@@ -1,6 +1,6 @@
 -- Counting, searching, choosing the least and listing, among the fragments below n. Definitions only.
 -- Assumes nothing.
-use Prim.Native.Nat.{ℕ, zero, suc, _+_, min}
+use Prim.Native.Nat.{ℕ, zero, suc, min}
 use mathlib.Core.Bool.{Bool, true, false, cond, _||_, _&&_}
 use mathlib.Core.List.{List, [], _∷_, _++_}
 use lib.Dec.{ltb}

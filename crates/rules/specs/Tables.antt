@@ -1,7 +1,7 @@
 -- What is stored of n fragments between two links: the forest so far, the notes, the marks and the held links. Definitions only.
 -- Assumes nothing.
 use Prim.Native.Nat.{ℕ, pred}
-use mathlib.Core.Bool.{Bool, true, false, cond}
+use mathlib.Core.Bool.{Bool, false, cond}
 use mathlib.Core.List.{List, []}
 use lib.ListN.{getD, set, replicate}
 use lib.Dec.{ltb}

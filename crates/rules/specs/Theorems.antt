@@ -7,19 +7,21 @@ use mathlib.Core.Bool.{not, _&&_}
 use mathlib.Core.List.{List, [], _∷_, _++_}
 use mathlib.Core.Logic.{_↔_}
 use lib.ListN.{length, getD}
-use lib.Dec.{T}
-use Rattle.rules.specs.Links.{Link, Links, between, linked, tally, Among, SameSet}
+use lib.Dec.{T, eqb}
+use Rattle.rules.specs.Links.{Link, Links, linked, Among, SameSet, JoinedBy}
 use Rattle.rules.specs.Removal.{Sole, Cut, Piece}
 use Rattle.rules.specs.Forest.{DepthFirst}
-use Rattle.rules.specs.Search.{count}
-use Rattle.rules.specs.Tables.{Tables, markOf, placed, par, fresh, cleared}
-use Rattle.rules.specs.Building.{pieces, member, sizeOf, heldIn, walked, buildLinks, done, pass, passes}
-use Rattle.rules.specs.Reading.{readLinks, accepted, sole, cut, piece}
+use Rattle.rules.specs.Search.{count, least}
+use Rattle.rules.specs.Tables.{Tables, markOf, placed, par, lev, fresh, cleared}
+use Rattle.rules.specs.Building.{pieces, member, walked, buildLinks, done, pass, passes}
+use Rattle.rules.specs.Reading.{readLinks, accepted, lowest, sole, cut, piece}
 use Rattle.rules.specs.Laws.Facts.{Standing, Rested, Loose, Holding, Underway, Ready, Walked}
 use Rattle.rules.specs.Laws.Partial.{Partial, Tells, Each}
 use Rattle.rules.specs.Laws.Walk.{walk}
 use Rattle.rules.specs.Laws.Step.{list-kept}
 use Rattle.rules.specs.Laws.Quota.{held-most}
+use Rattle.rules.specs.Laws.Pieces.{Inside, pieces-joined, label-least}
+use Rattle.rules.specs.Laws.Reading.{note-exact}
 use Rattle.rules.specs.Laws.Passes.{fresh-partial, pass-keeps, pass-grows, pass-finishes, result}
 use Rattle.rules.specs.Laws.Ceiling.{unfinished-places, ceiling, ceiling-more}
 use Rattle.rules.specs.Laws.Reports.{SameReports, reading-exact, sole-exact, cut-exact, piece-exact, equal-reports}
@@ -63,6 +65,10 @@ passes-within n k gs g pos among left = (ceiling n k pos gs among left g, ceilin
 pub reading-accepts : (n : ℕ) (t : Tables) (g : List Link) → Standing n t → Among n (linked g) → T (accepted n (readLinks (cleared n t) g)) ↔ DepthFirst n (par t) (linked g)
 reading-accepts n t g S among = reading-exact S g among
 
+-- What the reading rules note is what they say: 'the least of its own level and the levels of fragments linked to it, its parent left out'.
+pub note-least : (n : ℕ) (t : Tables) (g : List Link) → Standing n t → Among n (linked g) → (v : ℕ) → v < n → lowest (readLinks (cleared n t) g) v ≡ least (λ w. linked g v w && not (eqb w (par t v))) (lev t) (lev t v) n
+note-least n t g S among = note-exact S g among
+
 -- 6. Removal: where reading accepts, sole, cut and piece are those by removal on the list read, both ways. (P1: Laws.MetReading.met-sole, met-cut.)
 module _ (n : ℕ) (t : Tables) (g : List Link) (S : Standing n t) (among : Among n (linked g)) (read : T (accepted n (readLinks (cleared n t) g))) where
   pub sole-by-removal : (a b : ℕ) → a < n → b < n → T (sole n (readLinks (cleared n t) g) a b) ↔ Sole g a b
@@ -79,7 +85,14 @@ module _ (n : ℕ) (t : Tables) (g : List Link) (S : Standing n t) (among : Amon
 pub reports-equal : (n : ℕ) (s t : Tables) (g h : List Link) → Standing n s → Standing n t → Among n (linked g) → SameSet g h → T (accepted n (readLinks (cleared n s) g)) → T (accepted n (readLinks (cleared n t) h)) → SameReports n (readLinks (cleared n s) g) (readLinks (cleared n t) h)
 reports-equal n s t g h S Z among same = equal-reports S Z g h among same
 
--- 8. Held links: none twice and at most k·s - 1 in a piece of s, at every moment of a pass (record Underway, with Holding in it, is kept by every link told),
+-- 8. Held links. The pieces are what the held links make: two fragments are in one piece exactly when held links join them, and a piece is known by its smallest member.
+pub pieces-by-held : (n : ℕ) (held : List Link) → Inside n held → (u v : ℕ) → u < n → v < n → (getD (pieces n held) u 0 ≡ getD (pieces n held) v 0) ↔ JoinedBy (linked held) u v
+pieces-by-held = pieces-joined
+
+pub pieces-smallest : (n : ℕ) (held : List Link) → Inside n held → (u v : ℕ) → v < n → JoinedBy (linked held) v u → getD (pieces n held) v 0 ≤ u
+pieces-smallest = label-least
+
+-- None is held twice and a piece of s holds at most k·s - 1, at every moment of a pass (record Underway, with Holding in it, is kept by every link told),
 pub held-links-kept : (n k : ℕ) (t : Tables) (g : List Link) → Among n (linked g) → Underway n k t → Underway n k (buildLinks n k t g)
 held-links-kept n k t g among U = list-kept g among U
 

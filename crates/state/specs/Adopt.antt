@@ -1,7 +1,7 @@
 -- Adopt: 'Adopt (n, k, a parent table of at least n words, of which the first n are read) gives Built.' Definitions only.
 -- Assumes nothing.
 use Prim.Native.Nat.{ℕ}
-use mathlib.Core.Bool.{Bool, false, not}
+use mathlib.Core.Bool.{false, not}
 use mathlib.Core.List.{List}
 use lib.ListN.{length}
 use lib.Dec.{ltb, eqb}

@@ -1,8 +1,8 @@
 -- How the two lent tables hold the tables of the rules. Definitions only; docs/TABLES.md has the layout in words.
 -- Assumes nothing.
 use Prim.Native.Nat.{ℕ, _+_, _-_, _*_, _/_, _%_}
-use mathlib.Core.Bool.{Bool, false}
-use mathlib.Core.List.{List, [], _∷_, _++_, map}
+use mathlib.Core.Bool.{false}
+use mathlib.Core.List.{List, [], _++_, map}
 use lib.ListN.{length, take, drop, replicate}
 use Rattle.rules.specs.Links.{Link}
 use Rattle.rules.specs.Tables.{Tables}

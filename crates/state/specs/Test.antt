@@ -1,9 +1,9 @@
 -- The test of the tables, refusal 11, clause by clause in document 01's order. Definitions only.
 -- Assumes nothing.
-use Prim.Native.Nat.{ℕ, suc, pred, _+_, _-_, _*_}
+use Prim.Native.Nat.{ℕ, suc, pred, _-_, _*_}
 use mathlib.Core.Bool.{Bool, true, false, _||_, _&&_, not}
 use mathlib.Core.List.{List, [], _∷_}
-use lib.ListN.{length, getD, take, drop}
+use lib.ListN.{take, drop}
 use lib.Dec.{ltb, leb, eqb}
 -- 'Entries in one pass: at most 16,777,215.'
 pub use Rattle.lists.specs.List.{entriesMost}

@@ -1,17 +1,17 @@
 -- What the parts of the theory promise one another: a forest that stands, a rested state, what a told list leaves, what a walk leaves.
 -- Assumes nothing.
-use Prim.Native.Nat.{ℕ, zero, suc, _+_, _-_, _*_, _<_, _≤_}
+use Prim.Native.Nat.{ℕ, suc, _-_, _*_, _<_, _≤_}
 use mathlib.Core.Path.{_≡_}
-use mathlib.Core.Bool.{Bool, true, false, _&&_}
-use mathlib.Core.List.{List, []}
+use mathlib.Core.Bool.{Bool, false, _&&_}
+use mathlib.Core.List.{[]}
 use mathlib.Core.Logic.{_⊎_, _≢_}
 use lib.ListN.{length, getD, replicate}
 use lib.Dec.{T}
-use Rattle.rules.specs.Links.{Link, Links, linked, tally, between, Among, Joined, JoinedBy}
+use Rattle.rules.specs.Links.{Links, linked, tally, between, Among, JoinedBy}
 use Rattle.rules.specs.Forest.{up}
 use Rattle.rules.specs.Search.{count}
 use Rattle.rules.specs.Tables.{Tables, parentOf, rank, noteOf, markOf, placed, par, lev}
-use Rattle.rules.specs.Building.{pieces, member, sizeOf, heldIn, lost}
+use Rattle.rules.specs.Building.{pieces, sizeOf, heldIn, lost}
 
 -- The law of levels: a root by itself at level 0, or a parent one level higher up.
 abbrev pub Levels : ℕ → (ℕ → ℕ) → (ℕ → ℕ) → Type 0

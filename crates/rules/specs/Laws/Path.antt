@@ -15,7 +15,6 @@ use Rattle.rules.specs.Forest.{up}
 use Rattle.rules.specs.Search.{count}
 use Rattle.rules.specs.Tables.{Tables, parentOf, rank, placed, par, lev, place}
 use Rattle.rules.specs.Building.{hang, placePath}
-use Rattle.rules.specs.Laws.Search.{count-mono, count-one-more}
 use Rattle.rules.specs.Laws.Up.{up-zero, up-suc, par-lev, up-lev, up-over, over-par-of}
 use Rattle.rules.specs.Laws.Tables.{placed-rank, rank-placed, placed-loose, par-placed, lev-rank, standing-levels, standing-place, place-note, place-mark, place-held, place-crossed, place-length, parentOf-place-same, parentOf-place-other, rank-place-same, rank-place-other}
 use Rattle.rules.specs.Laws.Kept.{Kept, rank-alike, place-count, kept-placed, kept-trans, parent-placed, over-rank}
@@ -196,14 +195,6 @@ module _ {n top : ℕ} {s t : Tables} (S : Standing n s) (A : Among n (linked (s
     -- What was placed before the top was hung stays.
     pub hung-walked : Kept s w
     hung-walked = kept-trans hung-kept (walked-kept hung-ready W)
-
-    -- Where the whole walk is placed, the top at least is placed anew.
-    pub walk-more : suc (count (placed s) n) ≤ count (placed w) n
-    walk-more = omega (
-      arith,
-      count-one-more (placed s) (placed t) n top (H .top-in) (λ p. placed-loose s top p (H .top-loose)) (H .top-placed) (λ v h d. rank-alike s t v (sym (H .other-rank v d))),
-      count-mono (placed t) (placed w) n (λ v h p. kept-placed (walked-kept hung-ready W) v p),
-    )
 
     abbrev On : ℕ → Type 0
     On v = OnPath top s w deepest v

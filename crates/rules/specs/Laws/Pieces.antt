@@ -11,7 +11,7 @@ use lib.Seq.{ext-getD, append-snoc}
 use lib.Dec.{T, eqb, eqb→eq}
 use Rattle.base.specs.Pick.{pick, tests}
 use Rattle.base.specs.Truth.{eq→eqb}
-use Rattle.rules.specs.Links.{Link, linked, JoinedBy, here, step}
+use Rattle.rules.specs.Links.{Link, linked, JoinedBy, here}
 use Rattle.rules.specs.Laws.Chain.{join, one, carry, wider}
 use Rattle.rules.specs.Laws.Search.{table-length, table-at}
 use Rattle.rules.specs.Laws.Links.{between-here, between-elim, linked-nil, linked-head, linked-tail, append-left, snoc-cases, snoc-last, joined-turn}
@@ -210,17 +210,6 @@ module _ (n : ℕ) (held : List Link) (inside : Inside n held) where
   -- A label is the smallest member of its piece.
   pub label-least : (u v : ℕ) → v < n → JoinedBy (linked held) v u → getD (pieces n held) v 0 ≤ u
   label-least u v h c = omega (arith, joined-label v u c, label-le u (joined-in v u c h))
-
-  -- A fragment that no held link touches is joined with itself alone: it is its own label, and its piece has no other member.
-  joined-none : (u v : ℕ) → ((w : ℕ) → T (linked held v w) → ⊥) → JoinedBy (linked held) v u → v ≡ u
-  joined-none u v f here = refl
-  joined-none u v f (step {a} {b} {c} r q) = absurd (f b r)
-
-  pub label-alone : (v : ℕ) → v < n → ((w : ℕ) → T (linked held v w) → ⊥) → getD (pieces n held) v 0 ≡ v
-  label-alone v h f = sym (joined-none _ v f (label-joined v h))
-
-  pub piece-alone : (u v : ℕ) → u < n → v < n → ((w : ℕ) → T (linked held v w) → ⊥) → getD (pieces n held) u 0 ≡ getD (pieces n held) v 0 → v ≡ u
-  piece-alone u v hu hv f e = joined-none u v f (label-joins v u hv hu (sym e))
 
 -- A fragment is a member of the piece whose smallest member is its label.
 pub member-intro : (l : List ℕ) (p v : ℕ) → getD l v 0 ≡ p → T (member l p v)

@@ -20,7 +20,7 @@ use Rattle.rules.specs.Tables.{Tables, noteOf, markOf, par, lev, putNote
 use Rattle.rules.specs.Reading.{above, hear, readLink, readLinks, lowest}
 use Rattle.rules.specs.Laws.Facts.{Over, Standing}
 use Rattle.rules.specs.Laws.Links.{between-elim, between-here, between-turn, linked-nil, linked-cases, linked-head, linked-tail}
-use Rattle.rules.specs.Laws.Tables.{cleared-forest, cleared-rested, rested-note, rested-mark, standing-cleared, standing-same, SameForest, forest-refl, forest-trans, same-par, same-lev, same-noteOf, same-markOf, putNote-forest, putMark-forest, putCrossed-forest, noteOf-putNote-same, noteOf-putNote-other, putNote-length, putNote-mark, putNote-held, putNote-crossed, markOf-putMark-same, markOf-putMark-other, putMark-length, putMark-note, putMark-held, putMark-crossed, putCrossed-note, putCrossed-mark, putCrossed-held, putCrossed-crossed}
+use Rattle.rules.specs.Laws.Tables.{cleared-forest, cleared-rested, rested-note, rested-mark, standing-cleared, SameForest, forest-refl, forest-trans, same-par, same-lev, same-noteOf, same-markOf, putNote-forest, putMark-forest, putCrossed-forest, noteOf-putNote-same, noteOf-putNote-other, putNote-length, putNote-mark, putNote-held, putNote-crossed, markOf-putMark-same, markOf-putMark-other, putMark-length, putMark-note, putMark-held, putMark-crossed, putCrossed-note, putCrossed-mark, putCrossed-held, putCrossed-crossed}
 
 -- t is what s becomes when each v hears of each w with R v w.
 pub record Heard (n : ℕ) (R : ℕ → ℕ → Type 0) (s t : Tables) : Type 0 where
@@ -282,12 +282,6 @@ module _ {n : ℕ} {t : Tables} (S : Standing n t) (g : List Link) (A : Among n 
   -- 'parent, level, held unchanged'
   pub read-forest : SameForest (readLinks (cleared n t) g) t
   read-forest = forest-trans (read-heard .forest) (cleared-forest t n)
-
-  pub read-held : readLinks (cleared n t) g .held ≡ []
-  read-held = read-heard .same-held ∙ cleared-rested n t .no-held
-
-  pub read-standing : Standing n (readLinks (cleared n t) g)
-  read-standing = standing-same (read-heard .forest) (read-heard .long-note ∙ standing-cleared S .long-note) (read-heard .long-mark ∙ standing-cleared S .long-mark) (standing-cleared S)
 
   -- The mark stands exactly where the parent link was read.
   pub read-seen : (v : ℕ) → v < n → (0 < markOf (readLinks (cleared n t) g) v) ↔ T (linked g v (par t v))

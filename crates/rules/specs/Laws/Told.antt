@@ -360,13 +360,3 @@ told-nothing n k t h S R = record {
 module _ (n k : ℕ) (t : Tables) (g : List Link) (h : 1 ≤ k) (S : Standing n t) (R : Rested n t) (A : Among n (linked g)) where
   pub told : Told n k (linked g) t (buildLinks n k t g)
   told = told-from n k t t [] g (told-nothing n k t h S R) A
-
-  -- No link is held twice.
-  pub held-once : (u v : ℕ) → tally (λ e. between e u v) (buildLinks n k t g .held) ≤ 1
-  held-once = told .learnt .holding .once
-
-  -- A piece of s fragments holds at most k·s - 1 links.
-  pub held-quota : (v : ℕ) → v < n →
-      let l = pieces n (buildLinks n k t g .held) in
-      suc (heldIn l (buildLinks n k t g .held) (getD l v 0)) ≤ k * sizeOf n l (getD l v 0)
-  held-quota = told .learnt .holding .quota

@@ -1,6 +1,6 @@
 -- What reading leaves agrees with its state: a block read, a pass accepted, and notes cleared.
 -- Assumes nothing.
-use Prim.Native.Nat.{ℕ, _-_, _≤_, _<_}
+use Prim.Native.Nat.{ℕ, _≤_, _<_}
 use mathlib.Core.Path.{_≡_, refl, sym, ap, _∙_}
 use mathlib.Core.Bool.{true, false, _||_, not}
 use mathlib.Core.List.{List, [], _∷_}

@@ -1,6 +1,6 @@
 -- From the clauses of the test to the facts of the theory.
 -- Assumes nothing.
-use Prim.Native.Nat.{ℕ, suc, pred, _-_, _*_, _≤_, _<_}
+use Prim.Native.Nat.{ℕ, suc, pred, _*_, _≤_, _<_}
 use mathlib.Core.Path.{_≡_, sym, _∙_, subst}
 use mathlib.Core.Bool.{false, _&&_, _||_, not}
 use mathlib.Core.Logic.{_⊎_, inl, inr, _≢_}

@@ -1,6 +1,6 @@
 -- From the facts of the theory to the clauses of the test.
 -- Assumes nothing.
-use Prim.Native.Nat.{ℕ, suc, pred, _-_, _*_, _<_}
+use Prim.Native.Nat.{ℕ, suc, pred, _*_, _<_}
 use mathlib.Core.Bool.{_&&_, _||_, not}
 use mathlib.Core.Logic.{inl, inr}
 use native.Mathlib.Omega.{arith}
