@@ -1,0 +1,261 @@
+//! A depth-first forest over a link list that is told in blocks, again and again, in little room: safe Rust over the proved library.
+//!
+//! ```no_run
+//! use welmocant::{Forest, Ending};
+//! # fn blocks() -> Vec<Vec<u8>> { vec![] }
+//! let mut forest = Forest::start(4, 2)?;
+//! loop {
+//!     for block in blocks() { forest.take(&block)?; }
+//!     if forest.close()? == Ending::Done { break; }
+//! }
+//! forest.open_reading()?;
+//! for block in blocks() { forest.take(&block)?; }
+//! forest.close()?;
+//! println!("{}", forest.sole(0, 3)?);
+//! # Ok::<(), welmocant::Refusal>(())
+//! ```
+
+pub mod plain;
+
+mod linked {
+    extern "C" {
+        pub fn welmocant_start(n: u32, k: u32, state: *mut u32, states: usize, frag: *mut u32, frags: usize, held: *mut u32, helds: usize) -> u32;
+        pub fn welmocant_adopt(n: u32, k: u32, parents: *const u32, count: usize, state: *mut u32, states: usize, frag: *mut u32, frags: usize, held: *mut u32, helds: usize) -> u32;
+        pub fn welmocant_open_reading(state: *mut u32, states: usize, frag: *mut u32, frags: usize, held: *mut u32, helds: usize) -> u32;
+        pub fn welmocant_take(state: *mut u32, states: usize, frag: *mut u32, frags: usize, held: *mut u32, helds: usize, block: *const u8, bytes: usize, place: *mut u64) -> u32;
+        pub fn welmocant_close(state: *mut u32, states: usize, frag: *mut u32, frags: usize, held: *mut u32, helds: usize, ending: *mut u64) -> u32;
+        pub fn welmocant_parent(state: *const u32, states: usize, frag: *const u32, frags: usize, held: *const u32, helds: usize, v: u32, answer: *mut u64) -> u32;
+        pub fn welmocant_level(state: *const u32, states: usize, frag: *const u32, frags: usize, held: *const u32, helds: usize, v: u32, answer: *mut u64) -> u32;
+        pub fn welmocant_piece(state: *const u32, states: usize, frag: *const u32, frags: usize, held: *const u32, helds: usize, v: u32, answer: *mut u64) -> u32;
+        pub fn welmocant_cut(state: *const u32, states: usize, frag: *mut u32, frags: usize, held: *const u32, helds: usize, v: u32, answer: *mut u64) -> u32;
+        pub fn welmocant_sole(state: *const u32, states: usize, frag: *const u32, frags: usize, held: *const u32, helds: usize, a: u32, b: u32, answer: *mut u64) -> u32;
+    }
+}
+
+/// Words of a state.
+pub const STATE: usize = 7;
+
+/// Words of the fragment table for each fragment.
+pub const WORDS: usize = 16;
+
+/// A refusal of document 01: its number, and its place in the block.
+#[derive(Clone, Copy, Debug, PartialEq, Eq)]
+pub struct Refusal {
+    pub number: u32,
+    pub place: u64,
+}
+
+/// How a pass ended.
+#[derive(Clone, Copy, Debug, PartialEq, Eq)]
+pub enum Ending {
+    /// Fragments are left: the list is to be told again.
+    More,
+    /// The forest is built.
+    Done,
+    /// The list read has this forest.
+    Read,
+}
+
+#[derive(Clone, Copy, Debug, PartialEq, Eq)]
+pub enum Stage {
+    Building,
+    Built,
+    Reading,
+    Read,
+}
+
+/// A state with its two tables. The words may be looked at and changed: a call on words that are no state is refused with 11.
+#[derive(Clone, Debug, PartialEq, Eq)]
+pub struct Forest {
+    pub state: [u32; STATE],
+    pub frag: Vec<u32>,
+    pub held: Vec<u32>,
+}
+
+fn done(number: u32, place: u64) -> Result<(), Refusal> {
+    if number == 0 {
+        Ok(())
+    } else {
+        Err(Refusal { number, place })
+    }
+}
+
+fn answered(number: u32, answer: u64) -> Result<u64, Refusal> {
+    if number == 0 {
+        Ok(answer)
+    } else {
+        Err(Refusal { number, place: 0 })
+    }
+}
+
+impl Forest {
+    /// Tables of the least length for n fragments with room k.
+    pub fn room(n: u32, k: u32) -> (Vec<u32>, Vec<u32>) {
+        (vec![0; WORDS * n as usize], vec![0; k as usize * n as usize])
+    }
+
+    pub fn start(n: u32, k: u32) -> Result<Forest, Refusal> {
+        let (n_room, k_room) = (n.min(32_768), k.min(64));
+        let (frag, held) = Forest::room(n_room, k_room);
+        Forest::start_in(n, k, frag, held)
+    }
+
+    /// Starts in tables of any length; words past those that the state needs are never written.
+    pub fn start_in(n: u32, k: u32, frag: Vec<u32>, held: Vec<u32>) -> Result<Forest, Refusal> {
+        let mut f = Forest { state: [0; STATE], frag, held };
+        // Each pointer goes with the length of the slice that it comes from, here and below.
+        let number = unsafe {
+            linked::welmocant_start(n, k, f.state.as_mut_ptr(), STATE, f.frag.as_mut_ptr(), f.frag.len(), f.held.as_mut_ptr(), f.held.len())
+        };
+        done(number, 0).map(|_| f)
+    }
+
+    /// A forest made elsewhere, by its parents.
+    pub fn adopt(k: u32, parents: &[u32]) -> Result<Forest, Refusal> {
+        let n = parents.len() as u32;
+        let (frag, held) = Forest::room(n.min(32_768), k.min(64));
+        let mut f = Forest { state: [0; STATE], frag, held };
+        let number = unsafe {
+            linked::welmocant_adopt(n, k, parents.as_ptr(), parents.len(), f.state.as_mut_ptr(), STATE, f.frag.as_mut_ptr(), f.frag.len(), f.held.as_mut_ptr(), f.held.len())
+        };
+        done(number, 0).map(|_| f)
+    }
+
+    pub fn open_reading(&mut self) -> Result<(), Refusal> {
+        let number = unsafe {
+            linked::welmocant_open_reading(self.state.as_mut_ptr(), STATE, self.frag.as_mut_ptr(), self.frag.len(), self.held.as_mut_ptr(), self.held.len())
+        };
+        done(number, 0)
+    }
+
+    /// Takes a block of whole links.
+    pub fn take(&mut self, block: &[u8]) -> Result<(), Refusal> {
+        let mut place = 0;
+        let number = unsafe {
+            linked::welmocant_take(self.state.as_mut_ptr(), STATE, self.frag.as_mut_ptr(), self.frag.len(), self.held.as_mut_ptr(), self.held.len(), block.as_ptr(), block.len(), &mut place)
+        };
+        done(number, place)
+    }
+
+    pub fn close(&mut self) -> Result<Ending, Refusal> {
+        let mut ending = 0;
+        let number = unsafe {
+            linked::welmocant_close(self.state.as_mut_ptr(), STATE, self.frag.as_mut_ptr(), self.frag.len(), self.held.as_mut_ptr(), self.held.len(), &mut ending)
+        };
+        answered(number, ending).map(|e| match e {
+            0 => Ending::More,
+            1 => Ending::Done,
+            _ => Ending::Read,
+        })
+    }
+
+    pub fn parent(&self, v: u32) -> Result<u32, Refusal> {
+        let mut answer = 0;
+        let number = unsafe {
+            linked::welmocant_parent(self.state.as_ptr(), STATE, self.frag.as_ptr(), self.frag.len(), self.held.as_ptr(), self.held.len(), v, &mut answer)
+        };
+        answered(number, answer).map(|x| x as u32)
+    }
+
+    pub fn level(&self, v: u32) -> Result<u32, Refusal> {
+        let mut answer = 0;
+        let number = unsafe {
+            linked::welmocant_level(self.state.as_ptr(), STATE, self.frag.as_ptr(), self.frag.len(), self.held.as_ptr(), self.held.len(), v, &mut answer)
+        };
+        answered(number, answer).map(|x| x as u32)
+    }
+
+    pub fn piece(&self, v: u32) -> Result<u32, Refusal> {
+        let mut answer = 0;
+        let number = unsafe {
+            linked::welmocant_piece(self.state.as_ptr(), STATE, self.frag.as_ptr(), self.frag.len(), self.held.as_ptr(), self.held.len(), v, &mut answer)
+        };
+        answered(number, answer).map(|x| x as u32)
+    }
+
+    /// Whether v is a cut fragment. Scratch words are used and cleared again.
+    pub fn cut(&mut self, v: u32) -> Result<bool, Refusal> {
+        let mut answer = 0;
+        let number = unsafe {
+            linked::welmocant_cut(self.state.as_ptr(), STATE, self.frag.as_mut_ptr(), self.frag.len(), self.held.as_ptr(), self.held.len(), v, &mut answer)
+        };
+        answered(number, answer).map(|x| x == 1)
+    }
+
+    pub fn sole(&self, a: u32, b: u32) -> Result<bool, Refusal> {
+        let mut answer = 0;
+        let number = unsafe {
+            linked::welmocant_sole(self.state.as_ptr(), STATE, self.frag.as_ptr(), self.frag.len(), self.held.as_ptr(), self.held.len(), a, b, &mut answer)
+        };
+        answered(number, answer).map(|x| x == 1)
+    }
+
+    /// The stage, where the state is one.
+    pub fn stage(&self) -> Option<Stage> {
+        match self.state[2] {
+            0 => Some(Stage::Building),
+            1 => Some(Stage::Built),
+            2 => Some(Stage::Reading),
+            3 => Some(Stage::Read),
+            _ => None,
+        }
+    }
+
+    /// Closes accepted in Building since the start.
+    pub fn passes(&self) -> u32 {
+        self.state[3]
+    }
+
+    /// Entries taken in this pass.
+    pub fn entries(&self) -> u32 {
+        self.state[4]
+    }
+}
+
+/// A number in groups of seven bits, lowest first.
+pub fn put_number(bytes: &mut Vec<u8>, mut x: u32) {
+    while x >= 128 {
+        bytes.push((x % 128) as u8 + 128);
+        x /= 128;
+    }
+    bytes.push(x as u8);
+}
+
+/// The bytes of links, as a block.
+pub fn block(links: &[(u32, u32)]) -> Vec<u8> {
+    let mut bytes = Vec::with_capacity(links.len() * 4);
+    for &(a, b) in links {
+        put_number(&mut bytes, a);
+        put_number(&mut bytes, b);
+    }
+    bytes
+}
+
+#[cfg(test)]
+mod tests {
+    use super::*;
+
+    /// An array too short for a state: 3, after 1 and 2 where n and k are given.
+    #[test]
+    fn short_state() {
+        let (mut state, mut frag, mut held, mut out) = ([5u32; 6], [8u32; 16], [8u32; 1], 7u64);
+        let (s, f, h) = (state.as_mut_ptr(), frag.as_mut_ptr(), held.as_mut_ptr());
+        let parents = [0u32];
+        // Six words are lent of six, and so for the tables: no call may touch more.
+        unsafe {
+            for (n, k, number) in [(1, 1, 3), (0, 1, 1), (1, 65, 2), (2, 1, 3)] {
+                assert_eq!(linked::welmocant_start(n, k, s, 6, f, 16, h, 1), number);
+                assert_eq!(linked::welmocant_adopt(n, k, parents.as_ptr(), 1, s, 6, f, 16, h, 1), number);
+            }
+            assert_eq!(linked::welmocant_open_reading(s, 6, f, 16, h, 1), 3);
+            assert_eq!(linked::welmocant_take(s, 6, f, 16, h, 1, [].as_ptr(), 0, &mut out), 3);
+            assert_eq!(linked::welmocant_close(s, 6, f, 16, h, 1, &mut out), 3);
+            assert_eq!(linked::welmocant_parent(s, 6, f, 16, h, 1, 0, &mut out), 3);
+            assert_eq!(linked::welmocant_level(s, 6, f, 16, h, 1, 0, &mut out), 3);
+            assert_eq!(linked::welmocant_piece(s, 6, f, 16, h, 1, 0, &mut out), 3);
+            assert_eq!(linked::welmocant_cut(s, 6, f, 16, h, 1, 0, &mut out), 3);
+            assert_eq!(linked::welmocant_sole(s, 6, f, 16, h, 1, 0, 0, &mut out), 3);
+        }
+        assert_eq!((state, frag, held, out), ([5; 6], [8; 16], [8], 0));
+    }
+}

@@ -1,0 +1,256 @@
+//! Refusals: their numbers, places and order, and that a refused call changes no word.
+
+mod common;
+
+use common::{build, list, tell, Dice};
+use welmocant::{block, Ending, Forest, Refusal};
+
+fn refused<T: std::fmt::Debug>(answer: Result<T, Refusal>, number: u32, place: u64) {
+    assert_eq!(answer.unwrap_err(), Refusal { number, place });
+}
+
+#[test]
+fn limits() {
+    refused(Forest::start(0, 1), 1, 0);
+    refused(Forest::start(32_769, 1), 1, 0);
+    refused(Forest::start(1, 0), 2, 0);
+    refused(Forest::start(1, 65), 2, 0);
+    refused(Forest::start(0, 0), 1, 0);
+    assert!(Forest::start(32_768, 64).is_ok());
+    refused(Forest::start_in(4, 2, vec![0; 63], vec![0; 8]), 3, 0);
+    refused(Forest::start_in(4, 2, vec![0; 64], vec![0; 7]), 3, 0);
+    assert!(Forest::start_in(4, 2, vec![9; 64], vec![9; 8]).is_ok());
+    refused(Forest::adopt(1, &[1, 0]), 10, 0);
+    refused(Forest::adopt(1, &[2, 0]), 10, 0);
+    refused(Forest::adopt(0, &[1, 0]), 2, 0);
+    refused(Forest::adopt(1, &[]), 1, 0);
+}
+
+#[test]
+fn blocks() {
+    let mut forest = Forest::start(4, 1).unwrap();
+    for (bytes, number, place) in [
+        (vec![0, 4], 4, 0),
+        (vec![9, 9], 4, 0),
+        (vec![2, 2], 5, 0),
+        (vec![0, 1, 2, 2], 5, 2),
+        (vec![0, 1, 0x80, 0], 7, 2),
+        (vec![0, 1, 0x80, 0x80, 0x80, 0], 7, 2),
+        (vec![0, 1, 0x80, 0x80], 8, 2),
+        (vec![0], 8, 0),
+        (vec![0, 1, 1, 2, 0, 0x81, 0x00], 7, 4),
+    ] {
+        let before = forest.clone();
+        refused(forest.take(&bytes), number, place);
+        assert_eq!(forest, before);
+    }
+    assert_eq!(forest.take(&[]), Ok(()));
+}
+
+#[test]
+fn stages() {
+    let links = [(0, 1), (1, 2)];
+    let mut forest = Forest::start(3, 1).unwrap();
+    refused(forest.open_reading(), 6, 0);
+    refused(forest.parent(0), 6, 0);
+    refused(forest.cut(0), 6, 0);
+    tell(&mut forest, &links, 2);
+    assert_eq!(forest.close(), Ok(Ending::Done));
+    refused(forest.take(&block(&links)), 6, 0);
+    refused(forest.close(), 6, 0);
+    refused(forest.sole(0, 1), 6, 0);
+    refused(forest.parent(3), 4, 0);
+    forest.open_reading().unwrap();
+    refused(forest.open_reading(), 6, 0);
+    tell(&mut forest, &links, 1);
+    assert_eq!(forest.close(), Ok(Ending::Read));
+    refused(forest.take(&[]), 6, 0);
+    refused(forest.sole(0, 3), 4, 0);
+    refused(forest.sole(1, 1), 5, 0);
+    refused(forest.sole(3, 3), 4, 0);
+    assert_eq!(forest.sole(0, 1), Ok(true));
+    forest.open_reading().unwrap();
+    assert_eq!(forest.entries(), 0);
+}
+
+#[test]
+fn words_of_the_state() {
+    // Which number a changed word of the state gives, in document 01's order: 1, 2, 3, 6, 11.
+    let links = [(0, 1), (1, 2)];
+    let mut forest = build(3, 2, &links, 2);
+    forest.open_reading().unwrap();
+    tell(&mut forest, &links, 2);
+    for (words, number) in [
+        (vec![(0, 0)], 1),
+        (vec![(0, 32_769), (1, 0), (2, 9), (6, 2)], 1),
+        (vec![(1, 0)], 2),
+        (vec![(1, 65), (2, 9), (6, 2)], 2),
+        (vec![(0, 4), (2, 9)], 3),
+        (vec![(1, 3), (6, 2)], 3),
+        (vec![(2, 4)], 6),
+        (vec![(2, u32::MAX), (6, 2)], 6),
+        (vec![(6, 2)], 11),
+        (vec![(6, u32::MAX)], 11),
+        (vec![(4, 16_777_216)], 11),
+        (vec![(5, u32::MAX)], 11),
+    ] {
+        let mut changed = forest.clone();
+        for (at, word) in words {
+            changed.state[at] = word;
+        }
+        let before = changed.clone();
+        refused(changed.take(&block(&links)), number, 0);
+        refused(changed.close(), number, 0);
+        refused(changed.parent(0), number, 0);
+        refused(changed.level(0), number, 0);
+        refused(changed.piece(0), number, 0);
+        // Not allowed in Reading: 6 comes before 11.
+        refused(changed.open_reading(), number.min(6), 0);
+        refused(changed.cut(0), number.min(6), 0);
+        refused(changed.sole(0, 1), number.min(6), 0);
+        assert_eq!(changed, before);
+    }
+}
+
+/// The test of the tables, 11, written anew: document 01's clauses one after another.
+fn sound(f: &Forest) -> bool {
+    let [n, k, stage, passes, entries, held, crossed] = f.state.map(|w| w as usize);
+    let word = |j: usize, v: usize| f.frag[j * n + v] as usize;
+    let (parent, level, note, mark) = (|v| word(0, v), |v| word(1, v), |v| word(2, v), |v| word(3, v));
+    let placed = |v: usize| level(v) > 0;
+    let building = stage == 0;
+    let all_placed = (0..n).all(placed);
+    if building == all_placed || !building && held != 0 || held > k * n || crossed > 1 {
+        return false;
+    }
+    let stands = |v: usize| {
+        !placed(v) && parent(v) == 0
+            || placed(v) && (parent(v) == v && level(v) == 1 || parent(v) < n && placed(parent(v)) && level(v) == level(parent(v)) + 1)
+    };
+    if !(0..n).all(stands) {
+        return false;
+    }
+    let links: Vec<(usize, usize)> = f.held[..held].iter().map(|&w| (w as usize / 32_768, w as usize % 32_768)).collect();
+    if links.iter().any(|&(a, b)| a >= b || b >= n || placed(a) || placed(b)) {
+        return false;
+    }
+    let distinct: std::collections::HashSet<_> = links.iter().collect();
+    if distinct.len() != links.len() {
+        return false;
+    }
+    let pairs: Vec<(u32, u32)> = links.iter().map(|&(a, b)| (a as u32, b as u32)).collect();
+    let piece = welmocant::plain::removal::joined(n, &pairs, None, None);
+    for p in 0..n as u32 {
+        let size = piece.iter().filter(|&&q| q == p).count();
+        let inside = pairs.iter().filter(|&&(a, _)| piece[a as usize] == p).count();
+        if size > 0 && inside > k * size - 1 {
+            return false;
+        }
+    }
+    let notes = (0..n).all(|v| match stage {
+        0 => note(v) == 0 || !placed(v) && note(v) - 1 < n && placed(note(v) - 1),
+        1 => note(v) == 0 && mark(v) == 0 && entries == 0,
+        _ => note(v) <= level(v) - 1,
+    });
+    let marks = (0..n).all(|v| mark(v) <= 1 && (mark(v) == 0 || if building { !placed(v) } else { parent(v) != v }));
+    let zero = f.held[held..k * n].iter().all(|&w| w == 0) && f.frag[4 * n..16 * n].iter().all(|&w| w == 0);
+    let counts = entries <= 16_777_215 && passes <= 1 + (0..n).filter(|&v| placed(v)).count();
+    let read = stage != 3 || crossed == 0 && (0..n).all(|v| parent(v) == v || mark(v) > 0);
+    notes && marks && zero && counts && read && (stage == 2 || crossed == 0)
+}
+
+#[test]
+fn single_words_changed() {
+    let mut dice = Dice::new(7);
+    let (mut still, mut broken) = (0, 0);
+    for round in 0..4_000u32 {
+        let n = 1 + dice.below(9);
+        let k = 1 + dice.below(3);
+        let links = list(&mut dice, n, round % 4);
+        let mut forest = if round % 2 == 0 {
+            let mut f = Forest::start(n, k).unwrap();
+            if round % 4 == 0 {
+                tell(&mut f, &links, 3);
+                if f.close() == Ok(Ending::Done) {
+                    f = Forest::start(n, k).unwrap();
+                }
+            }
+            tell(&mut f, &links, 3);
+            f
+        } else {
+            let mut f = build(n, k, &links, 4);
+            if round % 8 > 1 {
+                f.open_reading().unwrap();
+                tell(&mut f, &links, 3);
+            }
+            if round % 8 > 3 {
+                f.close().unwrap();
+            }
+            f
+        };
+        assert!(sound(&forest));
+        for _ in 0..30 {
+            let mut changed = forest.clone();
+            let value = [0, 1, 2, 3, dice.below(n + 2), 32_768 * dice.below(n) + dice.below(n), 40_000, u32::MAX][dice.below(8) as usize];
+            match dice.below(4) {
+                0 => {
+                    let i = dice.below(4 * n) as usize;
+                    changed.frag[i] = value;
+                }
+                1 => {
+                    let i = dice.below(16 * n) as usize;
+                    changed.frag[i] = value;
+                }
+                2 => {
+                    let i = dice.below(k * n) as usize;
+                    changed.held[i] = value;
+                }
+                _ => changed.state[3 + dice.below(4) as usize] = value,
+            }
+            let expected = sound(&changed);
+            let before = changed.clone();
+            // An empty block, a question or opening: whichever the stage allows.
+            let answer = match changed.state[2] {
+                0 | 2 => changed.take(&[]),
+                _ => changed.clone().open_reading(),
+            };
+            if expected {
+                assert_eq!(answer, Ok(()), "{before:?}");
+                still += 1;
+            } else {
+                refused(answer, 11, 0);
+                broken += 1;
+            }
+            assert_eq!(changed, before);
+        }
+        let _ = &mut forest;
+    }
+    println!("words changed: still a state {still}, refused with 11 {broken}");
+    assert!(still > 5_000 && broken > 20_000);
+}
+
+#[test]
+fn words_past_the_tables_stay() {
+    let mut dice = Dice::new(8);
+    for round in 0..300u32 {
+        let n = 1 + dice.below(20);
+        let k = 1 + dice.below(4);
+        let links = list(&mut dice, n, round % 4);
+        let guard = 0xABCD_0123;
+        let (f, h) = (16 * n as usize, (k * n) as usize);
+        let mut forest = Forest::start_in(n, k, vec![guard; f + 5], vec![guard; h + 5]).unwrap();
+        loop {
+            tell(&mut forest, &links, 2);
+            if forest.close().unwrap() == Ending::Done {
+                break;
+            }
+        }
+        forest.open_reading().unwrap();
+        tell(&mut forest, &links, 2);
+        forest.close().unwrap();
+        for v in 0..n {
+            forest.cut(v).unwrap();
+        }
+        assert!(forest.frag[f..].iter().chain(&forest.held[h..]).all(|&w| w == guard));
+    }
+}

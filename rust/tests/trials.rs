@@ -1,0 +1,265 @@
+//! Lists made at random, built, read and asked about by the proved calls, beside the same rules in plain Rust and a search by removal.
+
+mod common;
+
+use common::{build, list, tell, Dice};
+use welmocant::plain::{self, removal, Building, Link};
+use welmocant::{Ending, Forest, Stage};
+
+/// Every answer in Read against the search by removal.
+fn compare_with_removal(forest: &mut Forest, n: u32, links: &[Link]) -> (usize, usize) {
+    let piece = removal::joined(n as usize, links, None, None);
+    let (mut soles, mut cuts) = (0, 0);
+    for v in 0..n {
+        assert_eq!(forest.piece(v), Ok(piece[v as usize]));
+        let cut = removal::cut(n as usize, links, v);
+        assert_eq!(forest.cut(v), Ok(cut), "cut {v} of {n} {links:?}");
+        cuts += cut as usize;
+        for b in 0..v {
+            let sole = removal::sole(n as usize, links, v, b);
+            assert_eq!(forest.sole(v, b), Ok(sole));
+            assert_eq!(forest.sole(b, v), Ok(sole));
+            soles += sole as usize;
+        }
+    }
+    (soles, cuts)
+}
+
+/// One list: built pass by pass beside the plain rules, word for word in what is stored, then read.
+fn one_list(n: u32, k: u32, links: &mut Vec<Link>, dice: &mut Dice, shuffled: bool) -> (Forest, Building) {
+    let mut forest = Forest::start(n, k).unwrap();
+    let mut beside = Building::new(n as usize, k as usize);
+    loop {
+        if shuffled {
+            dice.shuffle(links);
+        }
+        tell(&mut forest, links, 1 + dice.below(links.len() as u32 + 1) as usize);
+        beside.take(links);
+        let ending = forest.close().unwrap();
+        let done = beside.close();
+        assert_eq!(ending, if done { Ending::Done } else { Ending::More });
+        for v in 0..n as usize {
+            let placed = beside.level[v] != u32::MAX;
+            assert_eq!(forest.frag[n as usize + v], if placed { beside.level[v] + 1 } else { 0 });
+            assert_eq!(forest.frag[v], if placed { beside.parent[v] } else { 0 });
+        }
+        assert_eq!(forest.passes() as usize, beside.passes);
+        if done {
+            break;
+        }
+    }
+    assert!(forest.passes() <= n.div_ceil(k));
+    (forest, beside)
+}
+
+#[test]
+fn small_lists_by_removal() {
+    let mut dice = Dice::new(1);
+    let (mut lists, mut lossy, mut several, mut soles, mut cuts, mut most) = (0, 0, 0, 0, 0, 0);
+    for round in 0..20_000u32 {
+        let n = 1 + dice.below(12);
+        let k = 1 + dice.below(5);
+        let mut links = list(&mut dice, n, round % 4);
+        let (mut forest, beside) = one_list(n, k, &mut links, &mut dice, round % 2 == 0);
+        forest.open_reading().unwrap();
+        dice.shuffle(&mut links);
+        tell(&mut forest, &links, 1 + dice.below(5) as usize);
+        assert_eq!(forest.close(), Ok(Ending::Read));
+        assert_eq!(forest.entries() as usize, links.len());
+        let (s, c) = compare_with_removal(&mut forest, n, &links);
+        lists += 1;
+        lossy += (beside.losses > 0) as usize;
+        several += (beside.passes > 1) as usize;
+        most = most.max(beside.passes);
+        soles += s;
+        cuts += c;
+    }
+    println!("small lists {lists}, with lost pieces {lossy}, with several passes {several} (at most {most}), sole links {soles}, cut fragments {cuts}");
+    assert!(lossy > 500 && several > 500 && soles > 5_000 && cuts > 5_000);
+}
+
+#[test]
+fn larger_lists_beside_the_plain_rules() {
+    let mut dice = Dice::new(2);
+    let (mut lossy, mut most) = (0, 0);
+    for round in 0..600u32 {
+        let n = 20 + dice.below(180);
+        let k = [1, 2, 3, 4, 8, 64][dice.below(6) as usize];
+        let mut links = list(&mut dice, n, round % 4);
+        let (mut forest, beside) = one_list(n, k, &mut links, &mut dice, true);
+        forest.open_reading().unwrap();
+        tell(&mut forest, &links, 7);
+        assert_eq!(forest.close(), Ok(Ending::Read));
+        let read = plain::read(&beside.parent, &links).expect("the plain reading accepts too");
+        for v in 0..n {
+            assert_eq!(forest.parent(v), Ok(read.parent[v as usize]));
+            assert_eq!(forest.level(v), Ok(read.level[v as usize]));
+            assert_eq!(forest.piece(v), Ok(read.piece[v as usize]));
+            assert_eq!(forest.cut(v), Ok(read.cut(v)));
+            let p = read.parent[v as usize];
+            if p != v {
+                assert_eq!(forest.sole(p, v), Ok(read.sole(p, v)));
+            }
+        }
+        lossy += (beside.losses > 0) as usize;
+        most = most.max(beside.passes);
+    }
+    println!("larger lists 600, with lost pieces {lossy}, at most {most} passes");
+    assert!(lossy > 50);
+}
+
+#[test]
+fn every_order_of_every_small_list() {
+    // Every set of links on three fragments and every order of it, with k = 1, 2 and 3; on four fragments every set, in its order and turned.
+    let mut count = 0;
+    for n in 1..=4u32 {
+        let all: Vec<Link> = (0..n).flat_map(|b| (0..b).map(move |a| (a, b))).collect();
+        for set in 0..1u32 << all.len() {
+            let chosen: Vec<Link> = all.iter().enumerate().filter(|(i, _)| set >> i & 1 == 1).map(|(_, &l)| l).collect();
+            let mut orders = vec![chosen.clone()];
+            permute(&mut chosen.clone(), 0, &mut orders);
+            for order in &mut orders {
+                for k in 1..=3 {
+                    let mut dice = Dice::new(3);
+                    let (mut forest, _) = one_list(n, k, order, &mut dice, false);
+                    forest.open_reading().unwrap();
+                    tell(&mut forest, order, 2);
+                    assert_eq!(forest.close(), Ok(Ending::Read));
+                    compare_with_removal(&mut forest, n, order);
+                    count += 1;
+                }
+            }
+        }
+    }
+    println!("orders of small lists {count}");
+}
+
+fn permute(list: &mut Vec<Link>, from: usize, out: &mut Vec<Vec<Link>>) {
+    if from + 1 >= list.len() {
+        out.push(list.clone());
+        return;
+    }
+    for i in from..list.len() {
+        list.swap(from, i);
+        permute(list, from + 1, out);
+        list.swap(from, i);
+    }
+}
+
+#[test]
+fn passes_that_tell_different_lists() {
+    // The reading pass refuses, or what it answers is true of the list it read.
+    let mut dice = Dice::new(4);
+    let (mut refused, mut accepted) = (0, 0);
+    for round in 0..8_000u32 {
+        let n = 2 + dice.below(10);
+        let k = 1 + dice.below(3);
+        let mut forest = Forest::start(n, k).unwrap();
+        let mut beside = Building::new(n as usize, k as usize);
+        let mut told = list(&mut dice, n, round % 4);
+        loop {
+            tell(&mut forest, &told, 3);
+            beside.take(&told);
+            let done = beside.close();
+            assert_eq!(forest.close().unwrap() == Ending::Done, done);
+            if done {
+                break;
+            }
+            if dice.below(2) == 0 {
+                told = list(&mut dice, n, round % 4);
+            }
+        }
+        assert!(forest.passes() <= n.div_ceil(k));
+        if dice.below(2) == 0 && !told.is_empty() {
+            told.pop();
+        }
+        let parents: Vec<u32> = (0..n).map(|v| forest.parent(v).unwrap()).collect();
+        forest.open_reading().unwrap();
+        tell(&mut forest, &told, 4);
+        let before = forest.clone();
+        match forest.close() {
+            Ok(_) => {
+                accepted += 1;
+                assert!(plain::read(&parents, &told).is_some());
+                compare_with_removal(&mut forest, n, &told);
+            }
+            Err(r) => {
+                refused += 1;
+                assert_eq!(r.number, 9);
+                assert!(plain::read(&parents, &told).is_none());
+                assert_eq!(forest.stage(), Some(Stage::Built));
+                assert_eq!(forest.frag[..2 * n as usize], before.frag[..2 * n as usize]);
+                assert!(forest.frag[2 * n as usize..].iter().all(|&w| w == 0));
+            }
+        }
+    }
+    println!("changed lists: reading refused {refused}, accepted {accepted}");
+    assert!(refused > 1_000 && accepted > 1_000);
+}
+
+#[test]
+fn adopted_forests() {
+    let mut dice = Dice::new(5);
+    let (mut cycles, mut taken, mut refused) = (0, 0, 0);
+    for round in 0..20_000u32 {
+        let n = 1 + dice.below(8);
+        let parents: Vec<u32> = (0..n).map(|v| if dice.below(3) == 0 { v } else { dice.below(n) }).collect();
+        match (Forest::adopt(1 + round % 64, &parents), plain::levels(&parents)) {
+            (Ok(mut forest), Some(level)) => {
+                for v in 0..n {
+                    assert_eq!(forest.parent(v), Ok(parents[v as usize]));
+                    assert_eq!(forest.level(v), Ok(level[v as usize]));
+                }
+                let mut links: Vec<Link> = (0..n).filter(|&v| parents[v as usize] != v).map(|v| (v, parents[v as usize])).collect();
+                if n > 1 && dice.below(2) == 0 {
+                    links.extend(list(&mut dice, n, 0).into_iter().take(2));
+                }
+                if dice.below(6) == 0 {
+                    links.pop();
+                }
+                forest.open_reading().unwrap();
+                tell(&mut forest, &links, 2);
+                match (forest.close(), plain::read(&parents, &links)) {
+                    (Ok(Ending::Read), Some(_)) => {
+                        taken += 1;
+                        compare_with_removal(&mut forest, n, &links);
+                    }
+                    (Err(r), None) => {
+                        refused += 1;
+                        assert_eq!(r.number, 9);
+                    }
+                    (ours, theirs) => panic!("{parents:?} {links:?}: {ours:?}, {}", theirs.is_some()),
+                }
+            }
+            (Err(r), None) => {
+                cycles += 1;
+                assert_eq!(r.number, 10);
+            }
+            (ours, theirs) => panic!("{parents:?}: {ours:?}, {theirs:?}"),
+        }
+    }
+    println!("adopted forests: cycles {cycles}, read {taken}, refused by reading {refused}");
+    assert!(cycles > 1_000 && taken > 1_000 && refused > 1_000);
+}
+
+#[test]
+fn two_rooms_and_two_orders_report_alike() {
+    let mut dice = Dice::new(6);
+    for round in 0..1_500u32 {
+        let n = 2 + dice.below(30);
+        let mut links = list(&mut dice, n, round % 4);
+        let mut reports = Vec::new();
+        for k in [1, 2, 7] {
+            dice.shuffle(&mut links);
+            let mut forest = build(n, k, &links, 1 + dice.below(9) as usize);
+            forest.open_reading().unwrap();
+            tell(&mut forest, &links, 5);
+            forest.close().unwrap();
+            let pieces: Vec<u32> = (0..n).map(|v| forest.piece(v).unwrap()).collect();
+            let cuts: Vec<bool> = (0..n).map(|v| forest.cut(v).unwrap()).collect();
+            let soles: Vec<bool> = links.iter().map(|&(a, b)| (a.min(b), a.max(b))).collect::<std::collections::BTreeSet<_>>().into_iter().map(|(a, b)| forest.sole(a, b).unwrap()).collect();
+            reports.push((pieces, cuts, soles));
+        }
+        assert!(reports.windows(2).all(|w| w[0] == w[1]));
+    }
+}
