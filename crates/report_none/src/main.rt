@@ -1,0 +1,4 @@
+// Prints the report on the file links.sev.
+fn main() {
+    telling::print_report();
+}
