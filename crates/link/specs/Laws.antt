@@ -1,17 +1,14 @@
 -- What the linked calls leave, at each of their answers.
 -- Assumes nothing.
-use Prim.Native.Nat.{ℕ, _≤_, _<_, suc}
+use Prim.Native.Nat.{ℕ, _≤_, _<_}
 use mathlib.Core.Path.{_≡_, refl, sym, ap, _∙_, subst}
-use mathlib.Core.Bool.{Bool}
-use mathlib.Core.List.{List, [], _∷_, _++_}
+use mathlib.Core.List.{List, [], _∷_}
 use native.Mathlib.Omega.{arith}
-use lib.ListN.{length, getD, set, drop}
+use lib.ListN.{length, getD}
 use lib.Seq.{sets, sets-eq}
-use lib.Dec.{ltb, eqb}
-use borrow.Author.Tests.{ne-eqb}
-use Rattle.base.specs.Pick.{pick, pick-all, tests}
+use lib.Dec.{eqb}
+use Rattle.base.specs.Pick.{pick-all, tests}
 use Rattle.base.specs.Answer.{Answer, gives, refuses}
-use Rattle.state.specs.Test.{entriesMost}
 use Rattle.state.specs.Call.{Begun, Left, boundsRefusal, headed, leaves}
 use Rattle.state.specs.Told.{begunTold, takenTold, closedTold, askedTold, judgedTold}
 use Rattle.state.specs.Take.{takes}

@@ -53,7 +53,7 @@ markWord false = 0
 abbrev pub wordMost : ℕ
 wordMost = 4294967295
 
--- A number in a word. No number of a state is more than a word holds.
+-- A number in a word: the greatest word where it is more than a word holds. The numbers of a state are far below that.
 unfoldable pub wordFor : ℕ → ℕ
 wordFor x = pick (leb x wordMost) x wordMost
 
