@@ -1,0 +1,145 @@
+//! The program `report` on sound and damaged files, each refusal at the first, a middle and the last link, with the file's parts cut at every
+//! byte of a link, against a reading of the bytes written for this test.
+
+mod common;
+
+use common::{list, Dice};
+use std::path::{Path, PathBuf};
+use std::process::Command;
+use welmocant::plain::{self, Building, Link};
+use welmocant::{block, put_number};
+
+/// What the program prints for a file; `None`: no file.
+fn printed(name: &str, file: Option<&[u8]>) -> String {
+    let program = Path::new(env!("CARGO_MANIFEST_DIR")).join("../target/bin/report");
+    let folder: PathBuf = std::env::temp_dir().join(format!("welmocant-{}-{name}", std::process::id()));
+    std::fs::create_dir_all(&folder).unwrap();
+    if let Some(bytes) = file {
+        std::fs::write(folder.join("links.sev"), bytes).unwrap();
+    }
+    let out = Command::new(program.canonicalize().expect("rt check report writes target/bin/report")).current_dir(&folder).output().unwrap();
+    std::fs::remove_dir_all(&folder).unwrap();
+    String::from_utf8(out.stdout).unwrap()
+}
+
+/// A number at a place: its value and the place behind it, or refusal 7 or 8.
+fn number(bytes: &[u8], at: usize) -> Result<(u32, usize), u32> {
+    let mut value = 0;
+    for i in 0..3 {
+        let &b = bytes.get(at + i).ok_or(8u32)?;
+        value += ((b % 128) as u32) << (7 * i);
+        if b < 128 {
+            return if b == 0 && i > 0 { Err(7) } else { Ok((value, at + i + 1)) };
+        }
+    }
+    Err(7)
+}
+
+/// The list of a file, or the refusal and its byte.
+fn parsed(bytes: &[u8]) -> Result<(u32, Vec<Link>), (u32, usize)> {
+    let (n, mut at) = number(bytes, 0).map_err(|r| (r, 0))?;
+    if n == 0 || n > 32_768 {
+        return Err((1, 0));
+    }
+    if n > 512 {
+        return Err((3, 0));
+    }
+    let mut links = Vec::new();
+    while at < bytes.len() {
+        let (a, middle) = number(bytes, at).map_err(|r| (r, at))?;
+        let (b, next) = number(bytes, middle).map_err(|r| (r, at))?;
+        if a >= n || b >= n {
+            return Err((4, at));
+        }
+        if a == b {
+            return Err((5, at));
+        }
+        links.push((a, b));
+        at = next;
+    }
+    Ok((n, links))
+}
+
+fn expected(bytes: &[u8]) -> String {
+    let (n, links) = match parsed(bytes) {
+        Ok(list) => list,
+        Err((number, place)) => return format!("refused {number} at {place}\n"),
+    };
+    let mut building = Building::new(n as usize, 4);
+    loop {
+        building.take(&links);
+        if building.close() {
+            break;
+        }
+    }
+    let read = plain::read(&building.parent, &links).unwrap();
+    let mut text = format!("fragments {n} links {} passes {}\n", links.len(), building.passes);
+    for v in 0..n {
+        let cut = if read.cut(v) { "yes" } else { "no" };
+        text += &format!("{v} parent {} piece {} cut {cut}\n", read.parent[v as usize], read.piece[v as usize]);
+    }
+    for a in 0..n {
+        for b in a + 1..n {
+            if read.sole(a, b) {
+                text += &format!("sole {a} {b}\n");
+            }
+        }
+    }
+    text
+}
+
+fn file(n: u32, links: &[Link]) -> Vec<u8> {
+    let mut bytes = Vec::new();
+    put_number(&mut bytes, n);
+    bytes.extend(block(links));
+    bytes
+}
+
+fn agrees(name: &str, bytes: &[u8]) {
+    assert_eq!(printed(name, Some(bytes)), expected(bytes), "{name}");
+}
+
+#[test]
+fn sound_files() {
+    assert_eq!(printed("none", None), "no file\n");
+    let six = "fragments 4 links 4 passes 1\n0 parent 0 piece 0 cut yes\n1 parent 0 piece 0 cut no\n2 parent 1 piece 0 cut no\n3 parent 0 piece 0 cut no\nsole 0 3\n";
+    assert_eq!(printed("six", Some(&[4, 0, 1, 0, 2, 0, 3, 1, 2])), six);
+    let mut dice = Dice::new(11);
+    for round in 0..60 {
+        let n = [1, 2, 5, 40, 130, 512][round % 6];
+        agrees(&format!("sound{round}"), &file(n, &list(&mut dice, n, (round / 6 % 4) as u32)));
+    }
+    for n in [0, 513, 32_768, 32_769] {
+        agrees(&format!("n{n}"), &file(n, &[]));
+    }
+    agrees("empty", &[]);
+    agrees("long header", &[0x80, 0x00]);
+}
+
+#[test]
+fn damaged_files() {
+    // Links of two, three and four bytes: in front of some 9,000 bytes, so that the ends of two parts fall on every byte of a link.
+    let mut dice = Dice::new(12);
+    let mut cases = 0;
+    for shift in 0..8 {
+        let mut links: Vec<Link> = (0..shift).map(|i| (i % 100, i % 100 + 1 + 150 * (i % 2))).collect();
+        links.extend((0..2_400).map(|_| (dice.below(150), 150 + dice.below(150))));
+        let sound = file(300, &links);
+        agrees(&format!("cut{shift}"), &sound);
+        let begin = |i: usize| file(300, &links[..i]).len();
+        for (where_, i) in [("first", 0), ("middle", 1_300), ("last", links.len() - 1)] {
+            for (kind, bad) in [("4", vec![0, 0xAC, 0x02]), ("5", vec![7, 7]), ("7", vec![1, 0x80, 0x00]), ("77", vec![0x80, 0x80, 0x80, 1, 2])] {
+                let mut bytes = sound[..begin(i)].to_vec();
+                bytes.extend(bad);
+                bytes.extend(&sound[begin(i + 1)..]);
+                agrees(&format!("{kind}{where_}{shift}"), &bytes);
+                cases += 1;
+            }
+            for less in 1..=3 {
+                agrees(&format!("8{where_}{shift}{less}"), &sound[..begin(i + 1) - less]);
+                cases += 1;
+            }
+        }
+    }
+    println!("damaged files {cases}");
+}
