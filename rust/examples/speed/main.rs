@@ -1,0 +1,145 @@
+//! The proved library measured beside plain Rust of the same rules; docs/SPEED.md says what and how. It fails where the two differ.
+
+mod clock;
+#[path = "../../tests/common/mod.rs"]
+mod common;
+mod lists;
+mod rows;
+mod sides;
+
+use clock::Clock;
+use rows::{Row, What};
+use sides::Run;
+use std::process::exit;
+
+const USE: &str = "speed [--quick] [--runs N] [--divide D] [--only ours|plain] [WORD..]";
+
+/// After so many milliseconds a row is not run once more.
+const LONG: f64 = 10_000.0;
+
+struct Options {
+    runs: usize,
+    ours: bool,
+    plain: bool,
+    rows: Vec<Row>,
+}
+
+fn options() -> Option<Options> {
+    let (mut quick, mut runs, mut by, mut only, mut words) = (false, 5, 1, None, Vec::new());
+    let mut given = std::env::args().skip(1);
+    while let Some(word) = given.next() {
+        match word.as_str() {
+            "--quick" => (quick, runs) = (true, 1),
+            "--runs" => runs = given.next()?.parse().ok()?,
+            "--divide" => by = given.next()?.parse().ok()?,
+            "--only" => only = Some(given.next()?),
+            _ if word.starts_with('-') => return None,
+            _ => words.push(word.replace(',', "")),
+        }
+    }
+    let mut rows: Vec<Row> = rows::table(quick, by).into_iter().filter(|row| words.iter().all(|w| row.words().contains(w))).collect();
+    if let Some(row) = Row::named(&words) {
+        rows = vec![row];
+    }
+    let (ours, plain) = (only.as_deref() != Some("plain"), only.as_deref() != Some("ours"));
+    (!rows.is_empty() && runs > 0).then_some(Options { runs, ours, plain, rows })
+}
+
+/// 1000000 as 1,000,000.
+fn grouped(x: usize) -> String {
+    if x < 1000 {
+        x.to_string()
+    } else {
+        format!("{},{:03}", grouped(x / 1000), x % 1000)
+    }
+}
+
+/// The runs of one side: the best time, how much longer the worst took, the words.
+struct Side(Vec<Run>);
+
+impl Side {
+    fn best(&self) -> Option<f64> {
+        self.0.iter().map(|run| run.time).reduce(f64::min)
+    }
+
+    fn spread(&self) -> Option<f64> {
+        let worst = self.0.iter().map(|run| run.time).reduce(f64::max)?;
+        Some((worst / self.best()? - 1.0) * 100.0)
+    }
+}
+
+fn shown(x: Option<f64>, digits: usize, unit: &str) -> String {
+    x.map_or("-".to_string(), |x| format!("{x:.digits$}{unit}"))
+}
+
+fn head() {
+    println!("| what | list | n | links | k | blocks | passes | runs | ours (ms) | plain (ms) | ratio | spread, ours | spread, plain | words, ours | words, plain |");
+    println!("|---|---|--:|--:|--:|---|--:|--:|--:|--:|--:|--:|--:|--:|--:|");
+}
+
+fn print(row: &Row, ours: &Side, plain: &Side) {
+    let runs = ours.0.len().max(plain.0.len());
+    let some = ours.0.first().or(plain.0.first()).unwrap();
+    let words = |side: &Side| side.0.first().map_or("-".to_string(), |run| grouped(run.words));
+    let ratio = ours.best().zip(plain.best()).map(|(a, b)| a / b);
+    let cells = [
+        row.what.to_string(),
+        row.list.to_string(),
+        grouped(row.n as usize),
+        grouped(row.links),
+        row.k.to_string(),
+        row.blocks.to_string(),
+        grouped(some.passes),
+        runs.to_string(),
+        shown(ours.best(), 1, ""),
+        shown(plain.best(), 1, ""),
+        shown(ratio, 2, ""),
+        shown(ours.spread(), 0, "%"),
+        shown(plain.spread(), 0, "%"),
+        words(ours),
+        words(plain),
+    ];
+    println!("| {} |", cells.join(" | "));
+}
+
+/// Both sides in turn, so that what else the machine does falls on both.
+fn measure(row: &Row, options: &Options) {
+    let links = lists::links(row);
+    let blocks = lists::blocks(row, &links);
+    // A reading pass is over the forest that plain Rust builds.
+    let parents = match row.what {
+        What::Build => Vec::new(),
+        What::Read => sides::build_plain(row, &blocks).answer[..row.n as usize].to_vec(),
+    };
+    let (mut ours, mut plain) = (Side(Vec::new()), Side(Vec::new()));
+    let start = Clock::start();
+    for run in 0..options.runs {
+        if run > 0 && start.passed() > LONG {
+            break;
+        }
+        if options.ours {
+            ours.0.push(if row.what == What::Build { sides::build(row, &blocks) } else { sides::read(row, &parents, &blocks) });
+        }
+        if options.plain {
+            plain.0.push(if row.what == What::Build { sides::build_plain(row, &blocks) } else { sides::read_plain(row, &parents, &blocks) });
+        }
+        if let (Some(a), Some(b)) = (ours.0.last(), plain.0.last()) {
+            if a.passes != b.passes || a.answer != b.answer {
+                eprintln!("the two differ: {}", row.words().join(" "));
+                exit(1);
+            }
+        }
+    }
+    print(row, &ours, &plain);
+}
+
+fn main() {
+    let Some(options) = options() else {
+        eprintln!("{USE}");
+        exit(2);
+    };
+    head();
+    for row in &options.rows {
+        measure(row, &options);
+    }
+}

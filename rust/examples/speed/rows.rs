@@ -1,0 +1,105 @@
+//! The rows of the table: what is measured, on which list, with which room, told in which blocks.
+
+use std::fmt;
+
+#[derive(Clone, Copy, PartialEq)]
+pub enum What {
+    Build,
+    Read,
+}
+
+#[derive(Clone, Copy, PartialEq)]
+pub enum List {
+    Random,
+    Path,
+}
+
+#[derive(Clone, Copy, PartialEq)]
+pub enum Blocks {
+    One,
+    Small,
+}
+
+#[derive(Clone, PartialEq)]
+pub struct Row {
+    pub what: What,
+    pub list: List,
+    pub n: u32,
+    pub links: usize,
+    pub k: u32,
+    pub blocks: Blocks,
+}
+
+impl fmt::Display for What {
+    fn fmt(&self, f: &mut fmt::Formatter) -> fmt::Result {
+        f.write_str(if *self == What::Build { "build" } else { "read" })
+    }
+}
+
+impl fmt::Display for List {
+    fn fmt(&self, f: &mut fmt::Formatter) -> fmt::Result {
+        f.write_str(if *self == List::Random { "random" } else { "path" })
+    }
+}
+
+impl fmt::Display for Blocks {
+    fn fmt(&self, f: &mut fmt::Formatter) -> fmt::Result {
+        f.write_str(if *self == Blocks::One { "one" } else { "64K" })
+    }
+}
+
+impl Row {
+    /// The six words that name a row, in the order of the table.
+    pub fn words(&self) -> [String; 6] {
+        [self.what.to_string(), self.list.to_string(), self.n.to_string(), self.links.to_string(), self.k.to_string(), self.blocks.to_string()]
+    }
+
+    /// The row that six words name, whether the table has it or not.
+    pub fn named(words: &[String]) -> Option<Row> {
+        let [what, list, n, links, k, blocks] = words else { return None };
+        let row = Row {
+            what: if what == "read" { What::Read } else { What::Build },
+            list: if list == "path" { List::Path } else { List::Random },
+            n: n.parse().ok()?,
+            links: links.parse().ok()?,
+            k: k.parse().ok()?,
+            blocks: if blocks == "64K" { Blocks::Small } else { Blocks::One },
+        };
+        (row.words() == *words && row.n > 1).then_some(row)
+    }
+}
+
+/// The largest n, and the length of the lists that do not grow.
+const N: u32 = 32_768;
+const LINKS: usize = 1_000_000;
+
+/// All rows, with n and the links divided by a number for a smaller table.
+pub fn table(quick: bool, by: usize) -> Vec<Row> {
+    let mut rows: Vec<Row> = Vec::new();
+    let mut add = |what, list, n: u32, links: usize, k, blocks| {
+        let row = Row { what, list, n: n / by as u32, links: links / by, k, blocks };
+        if !rows.contains(&row) {
+            rows.push(row);
+        }
+    };
+    let rooms: &[u32] = if quick { &[4, 64] } else { &[1, 4, 16, 64] };
+    let ways: &[Blocks] = if quick { &[Blocks::One] } else { &[Blocks::One, Blocks::Small] };
+    for what in [What::Build, What::Read] {
+        for list in [List::Random, List::Path] {
+            for &k in rooms {
+                for &blocks in ways {
+                    add(what, list, N, LINKS, k, blocks);
+                }
+            }
+        }
+    }
+    for k in if quick { vec![] } else { vec![4, 64] } {
+        for step in 0..6 {
+            add(What::Build, List::Random, N, LINKS / 8 << step, k, Blocks::One);
+        }
+        for n in [N / 8, N / 4, N / 2, N] {
+            add(What::Build, List::Random, n, LINKS, k, Blocks::One);
+        }
+    }
+    rows
+}

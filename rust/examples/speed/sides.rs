@@ -1,0 +1,86 @@
+//! The two sides: the proved library, and plain Rust of the same rules.
+
+use super::clock::Clock;
+use super::rows::Row;
+use welmocant::plain::{decode, levels, words_of, Building, Link, Reading};
+use welmocant::{Ending, Forest};
+
+/// One run: its time, what must be the same on both sides, and the words it took.
+pub struct Run {
+    /// In milliseconds.
+    pub time: f64,
+    pub passes: usize,
+    /// Of a building the parents and the levels, of a reading the notes and the parent links seen: as the fragment table has them.
+    pub answer: Vec<u32>,
+    pub words: usize,
+}
+
+/// A building, from the start to done.
+pub fn build(row: &Row, blocks: &[Vec<u8>]) -> Run {
+    let start = Clock::start();
+    let mut forest = Forest::start(row.n, row.k).unwrap();
+    loop {
+        for block in blocks {
+            forest.take(block).unwrap();
+        }
+        if forest.close().unwrap() == Ending::Done {
+            break;
+        }
+    }
+    let time = start.passed();
+    let answer = forest.frag[..2 * row.n as usize].to_vec();
+    Run { time, passes: forest.passes() as usize, answer, words: forest.frag.len() + forest.held.len() }
+}
+
+pub fn build_plain(row: &Row, blocks: &[Vec<u8>]) -> Run {
+    let start = Clock::start();
+    let mut links: Vec<Link> = Vec::new();
+    let mut building = Building::new(row.n as usize, row.k as usize);
+    loop {
+        let mut entries = 0;
+        for block in blocks {
+            decode(row.n, entries, block, &mut links).unwrap();
+            entries += links.len();
+            building.take(&links);
+        }
+        if building.close() {
+            break;
+        }
+    }
+    let time = start.passed();
+    let mut answer = building.parent.clone();
+    answer.extend(building.level.iter().map(|l| l + 1));
+    Run { time, passes: building.passes, answer, words: building.words() + words_of(&links) }
+}
+
+/// A reading pass over the forest with these parents, from its opening to its close.
+pub fn read(row: &Row, parents: &[u32], blocks: &[Vec<u8>]) -> Run {
+    let mut forest = Forest::adopt(row.k, parents).unwrap();
+    let start = Clock::start();
+    forest.open_reading().unwrap();
+    for block in blocks {
+        forest.take(block).unwrap();
+    }
+    assert_eq!(forest.close(), Ok(Ending::Read));
+    let time = start.passed();
+    let n = row.n as usize;
+    Run { time, passes: 1, answer: forest.frag[2 * n..4 * n].to_vec(), words: forest.frag.len() + forest.held.len() }
+}
+
+pub fn read_plain(row: &Row, parents: &[u32], blocks: &[Vec<u8>]) -> Run {
+    let levels = levels(parents).unwrap();
+    let start = Clock::start();
+    let mut links: Vec<Link> = Vec::new();
+    let mut reading = Reading::open(parents, &levels);
+    let mut entries = 0;
+    for block in blocks {
+        decode(row.n, entries, block, &mut links).unwrap();
+        entries += links.len();
+        reading.take(&links);
+    }
+    assert!(reading.close());
+    let time = start.passed();
+    let mut answer: Vec<u32> = levels.iter().zip(&reading.low).map(|(level, low)| level - low).collect();
+    answer.extend(reading.seen.iter().map(|&s| s as u32));
+    Run { time, passes: 1, answer, words: reading.words() + words_of(&links) }
+}
