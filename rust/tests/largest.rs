@@ -3,27 +3,61 @@
 mod common;
 
 use common::{tell, Dice};
-use welmocant::{Ending, Forest};
+use welmocant::plain::{Building, Link};
+use welmocant::{block, Ending, Forest};
+
+const GUARD: u32 = 0x5A5A_5A5A;
+
+/// A start in tables of the least length that hold anything, guard words behind them.
+fn guarded(n: u32, k: u32) -> Forest {
+    let (mut frag, mut held) = Forest::room(n, k);
+    for table in [&mut frag, &mut held] {
+        table.fill(7);
+        table.extend([GUARD; 4]);
+    }
+    Forest::start_in(n, k, frag, held).unwrap()
+}
+
+fn guards_stand(forest: &Forest, n: u32, k: u32) -> bool {
+    let behind = forest.frag[16 * n as usize..].iter().chain(&forest.held[(k * n) as usize..]);
+    behind.clone().count() == 8 && behind.clone().all(|&w| w == GUARD)
+}
 
 /// Builds and reads a list of so many entries, told in blocks of so many links.
 fn largest(entries: usize, block: usize) {
     let (n, k) = (32_768u32, 64u32);
     let mut dice = Dice::new(9);
-    let links: Vec<(u32, u32)> = (0..entries).map(|_| (dice.below(n), dice.below(n))).filter(|(a, b)| a != b).collect();
-    let guard = 0x5A5A_5A5A;
-    let (f, h) = (16 * n as usize, (k * n) as usize);
-    let mut frag = vec![7; f];
-    frag.extend([guard; 4]);
-    let mut held = vec![7; h];
-    held.extend([guard; 4]);
-    let mut forest = Forest::start_in(n, k, frag, held).unwrap();
+    let links: Vec<Link> = (0..entries).map(|_| (dice.below(n), dice.below(n))).filter(|(a, b)| a != b).collect();
+    let mut forest = guarded(n, k);
     tell(&mut forest, &links, links.len());
     assert_eq!(forest.close(), Ok(Ending::Done));
     assert_eq!(forest.passes(), 1);
     forest.open_reading().unwrap();
     tell(&mut forest, &links, block);
     assert_eq!(forest.close(), Ok(Ending::Read));
-    assert!(forest.frag[f..].iter().chain(&forest.held[h..]).all(|&w| w == guard));
+    assert!(guards_stand(&forest, n, k));
+}
+
+/// Fills the held table as far as the rules allow, k·n - 1 links in one piece, in one block: beside the plain rules.
+fn most_held(n: u32, k: u32) {
+    let mut dice = Dice::new(10);
+    let mut number: Vec<u32> = (0..n).collect();
+    dice.shuffle(&mut number);
+    // A ring in which each fragment is linked with the next k, one link left out: no part of it has more links than its room, in any order.
+    let mut links: Vec<Link> = (0..n).flat_map(|v| (1..=k).map(move |d| (v, (v + d) % n))).map(|(a, b)| (number[a as usize], number[b as usize])).collect();
+    dice.shuffle(&mut links);
+    links.pop();
+    let mut forest = guarded(n, k);
+    forest.take(&block(&links)).unwrap();
+    assert_eq!(forest.state[5], k * n - 1);
+    assert_eq!(forest.close(), Ok(Ending::Done));
+    assert_eq!(forest.passes(), 1);
+    let mut beside = Building::new(n as usize, k as usize);
+    beside.take(&links);
+    assert!(beside.close());
+    assert_eq!(beside.most_held, links.len());
+    assert_eq!(forest.frag[..n as usize], beside.parent);
+    assert!(guards_stand(&forest, n, k));
 }
 
 #[test]
@@ -35,4 +69,15 @@ fn largest_tables() {
 #[ignore = "80 seconds: 'held already' looks through the held links, so a pass grows with their square"]
 fn largest_tables_long_list() {
     largest(200_000, 50_000);
+}
+
+#[test]
+fn most_held_links() {
+    most_held(1_000, 8);
+}
+
+#[test]
+#[ignore = "'held already' looks through the held links, so a pass grows with their square"]
+fn most_held_links_of_all() {
+    most_held(32_768, 64);
 }

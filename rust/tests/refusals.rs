@@ -3,6 +3,7 @@
 mod common;
 
 use common::{build, list, tell, Dice};
+use welmocant::plain::decode;
 use welmocant::{block, Ending, Forest, Refusal};
 
 fn refused<T: std::fmt::Debug>(answer: Result<T, Refusal>, number: u32, place: u64) {
@@ -43,6 +44,7 @@ fn blocks() {
         let before = forest.clone();
         refused(forest.take(&bytes), number, place);
         assert_eq!(forest, before);
+        refused(decode(4, 0, &bytes, &mut Vec::new()), number, place);
     }
     assert_eq!(forest.take(&[]), Ok(()));
 }

@@ -1,5 +1,5 @@
 //! The program `report` on sound and damaged files, each refusal at the first, a middle and the last link, with the file's parts cut at every
-//! byte of a link, against a reading of the bytes written for this test.
+//! byte of a link, against the rules in plain Rust.
 
 mod common;
 
@@ -22,22 +22,9 @@ fn printed(name: &str, file: Option<&[u8]>) -> String {
     String::from_utf8(out.stdout).unwrap()
 }
 
-/// A number at a place: its value and the place behind it, or refusal 7 or 8.
-fn number(bytes: &[u8], at: usize) -> Result<(u32, usize), u32> {
-    let mut value = 0;
-    for i in 0..3 {
-        let &b = bytes.get(at + i).ok_or(8u32)?;
-        value += ((b % 128) as u32) << (7 * i);
-        if b < 128 {
-            return if b == 0 && i > 0 { Err(7) } else { Ok((value, at + i + 1)) };
-        }
-    }
-    Err(7)
-}
-
 /// The list of a file, or the refusal and its byte.
 fn parsed(bytes: &[u8]) -> Result<(u32, Vec<Link>), (u32, usize)> {
-    let (n, mut at) = number(bytes, 0).map_err(|r| (r, 0))?;
+    let (n, head) = plain::number(bytes, 0).map_err(|r| (r, 0))?;
     if n == 0 || n > 32_768 {
         return Err((1, 0));
     }
@@ -45,18 +32,7 @@ fn parsed(bytes: &[u8]) -> Result<(u32, Vec<Link>), (u32, usize)> {
         return Err((3, 0));
     }
     let mut links = Vec::new();
-    while at < bytes.len() {
-        let (a, middle) = number(bytes, at).map_err(|r| (r, at))?;
-        let (b, next) = number(bytes, middle).map_err(|r| (r, at))?;
-        if a >= n || b >= n {
-            return Err((4, at));
-        }
-        if a == b {
-            return Err((5, at));
-        }
-        links.push((a, b));
-        at = next;
-    }
+    plain::decode(n, 0, &bytes[head..], &mut links).map_err(|r| (r.number, head + r.place as usize))?;
     Ok((n, links))
 }
 

@@ -50,6 +50,7 @@ fn path(dice: &mut Dice, n: u32, count: usize) -> Vec<Link> {
         (*a, *b) = (number[*a as usize], number[*b as usize]);
     }
     dice.shuffle(&mut links);
+    links.truncate(count);
     links
 }
 

@@ -37,6 +37,9 @@ fn options() -> Option<Options> {
             _ => words.push(word.replace(',', "")),
         }
     }
+    if !(1..=1024).contains(&by) {
+        return None;
+    }
     let mut rows: Vec<Row> = rows::table(quick, by).into_iter().filter(|row| words.iter().all(|w| row.words().contains(w))).collect();
     if let Some(row) = Row::named(&words) {
         rows = vec![row];
@@ -64,7 +67,7 @@ impl Side {
 
     fn spread(&self) -> Option<f64> {
         let worst = self.0.iter().map(|run| run.time).reduce(f64::max)?;
-        Some((worst / self.best()? - 1.0) * 100.0)
+        (self.0.len() > 1).then_some((worst / self.best()? - 1.0) * 100.0)
     }
 }
 

@@ -65,13 +65,17 @@ impl Row {
             k: k.parse().ok()?,
             blocks: if blocks == "64K" { Blocks::Small } else { Blocks::One },
         };
-        (row.words() == *words && row.n > 1).then_some(row)
+        (row.words() == *words && (3..=N).contains(&row.n) && (1..=64).contains(&row.k)).then_some(row)
     }
 }
 
 /// The largest n, and the length of the lists that do not grow.
 const N: u32 = 32_768;
 const LINKS: usize = 1_000_000;
+
+fn every<'a>(lists: &'a [List], rooms: &'a [u32], ways: &'a [Blocks]) -> impl Iterator<Item = (List, u32, Blocks)> + 'a {
+    lists.iter().flat_map(move |&list| rooms.iter().flat_map(move |&k| ways.iter().map(move |&blocks| (list, k, blocks))))
+}
 
 /// All rows, with n and the links divided by a number for a smaller table.
 pub fn table(quick: bool, by: usize) -> Vec<Row> {
@@ -82,24 +86,22 @@ pub fn table(quick: bool, by: usize) -> Vec<Row> {
             rows.push(row);
         }
     };
+    let lists = [List::Random, List::Path];
     let rooms: &[u32] = if quick { &[4, 64] } else { &[1, 4, 16, 64] };
     let ways: &[Blocks] = if quick { &[Blocks::One] } else { &[Blocks::One, Blocks::Small] };
-    for what in [What::Build, What::Read] {
-        for list in [List::Random, List::Path] {
-            for &k in rooms {
-                for &blocks in ways {
-                    add(what, list, N, LINKS, k, blocks);
-                }
-            }
-        }
+    for (list, k, blocks) in every(&lists, rooms, ways) {
+        add(What::Build, list, N, LINKS, k, blocks);
     }
-    for k in if quick { vec![] } else { vec![4, 64] } {
+    for &k in if quick { &[][..] } else { &[4, 64] } {
         for step in 0..6 {
-            add(What::Build, List::Random, N, LINKS / 8 << step, k, Blocks::One);
+            add(What::Build, List::Random, N, (LINKS / 8) << step, k, Blocks::One);
         }
         for n in [N / 8, N / 4, N / 2, N] {
             add(What::Build, List::Random, n, LINKS, k, Blocks::One);
         }
+    }
+    for (list, k, blocks) in every(&lists, &[4, 64], ways) {
+        add(What::Read, list, N, LINKS, k, blocks);
     }
     rows
 }

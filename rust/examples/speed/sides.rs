@@ -1,4 +1,4 @@
-//! The two sides: the proved library, and plain Rust of the same rules.
+//! The two sides: the proved library, and plain Rust of the same rules. They stay functions of their own, so that a profile can tell them apart.
 
 use super::clock::Clock;
 use super::rows::Row;
@@ -16,6 +16,7 @@ pub struct Run {
 }
 
 /// A building, from the start to done.
+#[inline(never)]
 pub fn build(row: &Row, blocks: &[Vec<u8>]) -> Run {
     let start = Clock::start();
     let mut forest = Forest::start(row.n, row.k).unwrap();
@@ -32,6 +33,7 @@ pub fn build(row: &Row, blocks: &[Vec<u8>]) -> Run {
     Run { time, passes: forest.passes() as usize, answer, words: forest.frag.len() + forest.held.len() }
 }
 
+#[inline(never)]
 pub fn build_plain(row: &Row, blocks: &[Vec<u8>]) -> Run {
     let start = Clock::start();
     let mut links: Vec<Link> = Vec::new();
@@ -54,6 +56,7 @@ pub fn build_plain(row: &Row, blocks: &[Vec<u8>]) -> Run {
 }
 
 /// A reading pass over the forest with these parents, from its opening to its close.
+#[inline(never)]
 pub fn read(row: &Row, parents: &[u32], blocks: &[Vec<u8>]) -> Run {
     let mut forest = Forest::adopt(row.k, parents).unwrap();
     let start = Clock::start();
@@ -67,6 +70,7 @@ pub fn read(row: &Row, parents: &[u32], blocks: &[Vec<u8>]) -> Run {
     Run { time, passes: 1, answer: forest.frag[2 * n..4 * n].to_vec(), words: forest.frag.len() + forest.held.len() }
 }
 
+#[inline(never)]
 pub fn read_plain(row: &Row, parents: &[u32], blocks: &[Vec<u8>]) -> Run {
     let levels = levels(parents).unwrap();
     let start = Clock::start();
