@@ -14,6 +14,9 @@ use std::process::exit;
 
 const USE: &str = "speed [--quick] [--runs N] [--divide D] [--only ours|plain] [WORD..]";
 
+/// How often a row is run.
+const RUNS: usize = 5;
+
 /// After so many milliseconds a row is not run once more.
 const LONG: f64 = 10_000.0;
 
@@ -25,14 +28,19 @@ struct Options {
 }
 
 fn options() -> Option<Options> {
-    let (mut quick, mut runs, mut by, mut only, mut words) = (false, 5, 1, None, Vec::new());
+    let (mut quick, mut runs, mut by, mut words) = (false, None, 1, Vec::new());
+    let (mut ours, mut plain) = (true, true);
     let mut given = std::env::args().skip(1);
     while let Some(word) = given.next() {
         match word.as_str() {
-            "--quick" => (quick, runs) = (true, 1),
-            "--runs" => runs = given.next()?.parse().ok()?,
+            "--quick" => quick = true,
+            "--runs" => runs = Some(given.next()?.parse().ok()?),
             "--divide" => by = given.next()?.parse().ok()?,
-            "--only" => only = Some(given.next()?),
+            "--only" => match given.next()?.as_str() {
+                "ours" => plain = false,
+                "plain" => ours = false,
+                _ => return None,
+            },
             _ if word.starts_with('-') => return None,
             _ => words.push(word.replace(',', "")),
         }
@@ -44,8 +52,8 @@ fn options() -> Option<Options> {
     if let Some(row) = Row::named(&words) {
         rows = vec![row];
     }
-    let (ours, plain) = (only.as_deref() != Some("plain"), only.as_deref() != Some("ours"));
-    (!rows.is_empty() && runs > 0).then_some(Options { runs, ours, plain, rows })
+    let runs = runs.unwrap_or(if quick { 1 } else { RUNS });
+    (!rows.is_empty() && runs > 0 && (ours || plain)).then_some(Options { runs, ours, plain, rows })
 }
 
 /// 1000000 as 1,000,000.
