@@ -3,6 +3,7 @@
 use Prim.Native.Nat.{ℕ, suc, _+_, _-_, _*_, _≤_, _<_}
 use mathlib.Core.Path.{_≡_}
 use mathlib.Core.List.{List, [], _∷_, _++_, map}
+use mathlib.Core.Logic.{_≢_}
 use lib.ListN.{length, getD, take, drop, replicate}
 use lib.Dec.{T}
 use Rattle.rules.specs.Links.{Link}
@@ -15,6 +16,12 @@ use Rattle.state.specs.Call.{fragmentsMost}
 -- The words of a list from one place to another cleared.
 unfoldable pub wiped : ℕ → ℕ → List ℕ → List ℕ
 wiped from to l = take from l ++ (replicate (to - from) 0 ++ drop to l)
+
+-- The ends of a link.
+pub record Ends (n a b : ℕ) : Type 0 where
+  pub first : a < n
+  pub second : b < n
+  pub differ : a ≢ b
 
 -- As many links as there is room for where n and k are greatest.
 abbrev pub heldMost : ℕ
@@ -48,6 +55,14 @@ pub record Kept (n : ℕ) (f f′ : List ℕ) : Type 0 where
 -- The smallest member of v's piece, whatever links stand gathered.
 abbrev pub LabelIs : (n : ℕ) (f : List ℕ) (v r : ℕ) → Type 0
 LabelIs n f v r = (held : List Link) → Gathered n held f → r ≡ getD (pieces n held) v 0
+
+-- A find: the smallest member of v's piece; the pointers may be shorter afterwards, whatever links stand gathered stay gathered.
+pub record Finds (n v : ℕ) (f : List ℕ) (r : ℕ) (f′ : List ℕ) : Type 0 where
+  pub label : LabelIs n f v r
+  pub in-range : r < n
+  pub pointing : Pointing n f′
+  pub stays : (held : List Link) → Gathered n held f → Gathered n held f′
+  pub kept : Kept n f f′
 
 -- One more link fits.
 pub record Joinable (n : ℕ) (f : List ℕ) (a b : ℕ) : Type 0 where

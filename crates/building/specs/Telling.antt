@@ -2,23 +2,23 @@
 -- Assumes nothing.
 use Prim.Native.Nat.{ℕ, suc, _+_, _-_, _*_, _≤_, _<_, min, max}
 use mathlib.Core.Path.{_≡_}
-use mathlib.Core.Bool.{Bool, false, _||_, not}
+use mathlib.Core.Bool.{Bool, true, false}
 use mathlib.Core.List.{List}
-use mathlib.Core.Logic.{_≢_}
 use lib.ListN.{length, getD, set, take, drop}
-use lib.Dec.{T, ltb, eqb}
+use lib.Dec.{T, ltb}
 use Rattle.base.specs.Answer.{gives}
 use Rattle.lists.specs.List.{linksAt}
 use Rattle.rules.specs.Links.{Link}
 use Rattle.rules.specs.Tables.{Tables, noteOf}
-use Rattle.rules.specs.Building.{pieces, sizeOf, heldIn, better, buildLinks}
+use Rattle.rules.specs.Building.{pieces, better, hold, holdLink, buildLinks}
 use Rattle.rules.specs.Laws.Facts.{Underway, Loose}
-use Rattle.state.specs.Layout.{words, stored, wordOf, tablesIn, forestIn}
+use Rattle.state.specs.Layout.{words, stored, linkIn, wordOf, tablesIn, forestIn}
 use Rattle.state.specs.Test.{allZero}
 use Rattle.state.specs.Call.{fragmentsMost, roomMost}
 use Rattle.state.specs.declared.State.{State}
 use Rattle.state.specs.declared.Stage.the-variants.{Building}
-use Rattle.building.specs.Pieces.{Pointing, Gathered, Joinable, Joins}
+use Rattle.building.specs.Pieces.{Ends, Gathered, Joinable, Joins}
+use Rattle.building.specs.Noted.{Noted}
 
 -- The tables of n fragments of which so many links are held, in Building.
 abbrev pub holds : ℕ → ℕ → State
@@ -27,7 +27,11 @@ holds n count = record { n = n; k = 0; stage = Building; passes = 0; entries = 0
 abbrev pub heldTables : ℕ → ℕ → List ℕ → List ℕ → Tables
 heldTables n count f h = tablesIn (holds n count) f h
 
--- Between two links of a block: the tables of a pass that is underway, their pieces in scratch.
+-- The held links stand with the smaller end first.
+abbrev pub Rising : ℕ → List ℕ → Type 0
+Rising count h = (i : ℕ) → i < count → linkIn (getD h i 0) .0 < linkIn (getD h i 0) .1
+
+-- Between two links of a block: the tables of a pass that is underway, their pieces and the links noted in scratch.
 pub record Telling (n k count : ℕ) (f h : List ℕ) : Type 0 where
   pub few-fragments : n ≤ fragmentsMost
   pub some-room : 0 < k
@@ -37,19 +41,15 @@ pub record Telling (n k count : ℕ) (f h : List ℕ) : Type 0 where
   pub underway : Underway n k (heldTables n count f h)
   pub gathered : Gathered n (heldTables n count f h .held) f
   pub as-many : length (heldTables n count f h .held) ≡ count
+  pub rising : Rising count h
+  pub noted : Noted n (heldTables n count f h .held) f
 
--- The ends of a link.
-pub record Ends (n a b : ℕ) : Type 0 where
-  pub first : a < n
-  pub second : b < n
-  pub differ : a ≢ b
-
--- What is told leaves the tables t, their pieces in scratch and every word past the pieces and the held links.
+-- What is told leaves the tables t, their pieces and the links noted in scratch, and every word past scratch and the held links.
 pub record Leaves (n k count : ℕ) (f h : List ℕ) (count′ : ℕ) (f′ h′ : List ℕ) (t : Tables) : Type 0 where
   pub telling : Telling n k count′ f′ h′
   pub tables : heldTables n count′ f′ h′ ≡ t
   pub frag-length : length f′ ≡ length f
-  pub frag-past : drop (7 * n) f′ ≡ drop (7 * n) f
+  pub frag-past : drop (words * n) f′ ≡ drop (words * n) f
   pub held-length : length h′ ≡ length h
   pub held-past : drop count′ h′ ≡ drop count′ h
   pub more : count ≤ count′
@@ -76,18 +76,6 @@ pub record Sized (n k p : ℕ) (f : List ℕ) : Type 0 where
   pub long : words * n ≤ length f
   pub in-range : p < n
 
--- A link from the piece with smallest member p to b.
-pub record Asked (n k p b : ℕ) (f : List ℕ) : Type 0 where
-  pub sized : Sized n k p f
-  pub pointing : Pointing n f
-  pub second : b < n
-
--- Whether it joins two pieces or finds room, whatever links stand gathered.
-abbrev pub MayHold : (n k p b : ℕ) (f : List ℕ) (r : Bool) → Type 0
-MayHold n k p b f r =
-    (held : List Link) → Gathered n held f → getD (pieces n held) p 0 ≡ p
-    → r ≡ (not (eqb p (getD (pieces n held) b 0)) || ltb (heldIn (pieces n held) held p) (k * sizeOf n (pieces n held) p - 1))
-
 -- A word for one more held link.
 pub record Holdable (n count a b : ℕ) (f h : List ℕ) : Type 0 where
   pub few-fragments : n ≤ fragmentsMost
@@ -106,6 +94,18 @@ pub record Between (n k count a b : ℕ) (f h : List ℕ) : Type 0 where
   pub ends : Ends n a b
   pub loose-first : Loose (heldTables n count f h) a
   pub loose-second : Loose (heldTables n count f h) b
+
+-- Its ends are in the piece with smallest member p.
+pub record Within (n k count p a b : ℕ) (f h : List ℕ) : Type 0 where
+  pub between : Between n k count a b f h
+  pub first : getD (pieces n (heldTables n count f h .held)) a 0 ≡ p
+  pub second : getD (pieces n (heldTables n count f h .held)) b 0 ≡ p
+
+-- The link is to be held, and the tables are as they were; or it is not, and they are as it leaves them.
+pub record MayHold (n k count a b : ℕ) (f h : List ℕ) (r : Bool) (f′ : List ℕ) : Type 0 where
+  pub same : r ≡ true → Leaves n k count f h count f′ h (heldTables n count f h)
+  pub new : r ≡ true → holdLink n k a b (heldTables n count f h) ≡ hold a b (heldTables n count f h)
+  pub left : r ≡ false → Leaves n k count f h count f′ h (holdLink n k a b (heldTables n count f h))
 
 -- From byte `at` on the block tells links, where so many entries came before.
 pub record Rest (n entries : ℕ) (block : List ℕ) (at : ℕ) : Type 0 where
@@ -126,6 +126,7 @@ pub record Tellable (n k count : ℕ) (f h : List ℕ) : Type 0 where
   pub held-long : k * n ≤ length h
   pub underway : Underway n k (heldTables n count f h)
   pub as-many : length (heldTables n count f h .held) ≡ count
+  pub rising : Rising count h
   pub blank : T (allZero (take ((words - stored) * n) (drop (stored * n) f)))
 
 -- The tables t, scratch 0, and every word past the tables and the held links.

@@ -1,9 +1,11 @@
-// What a close chooses for a piece: the best note of its members, its top, and whether it is lost. Labels stand in section 7.
+// What a close chooses for a piece: the best note of its members, its top, and whether it is lost. The members stand chained.
 ghost use mathlib.Core.Path.{_≡_};
-ghost use Prim.Native.Nat.{_<_, _≤_};
-ghost use Rattle.rules.specs.Building.{better, noted, member, lost};
+ghost use Prim.Native.Nat.{_≤_};
+ghost use Rattle.rules.specs.Building.{better, noted, lost};
 ghost use Rattle.state.specs.Layout.{section, forestIn};
-ghost use Rattle.building.specs.Closing.{Wide, Noting, topBy, firstNoted};
+ghost use Rattle.building.specs.Closing.{Chained, Noting, topBy, firstNoted};
+ghost use Rattle.building.specs.Walk.{Wide};
+use crate::members::next_member;
 
 // Of two notes the better.
 pub(crate) fn better_note(frag: &[u32], n: usize, old: usize, new: usize) -> usize
@@ -30,50 +32,38 @@ pub(crate) fn better_note(frag: &[u32], n: usize, old: usize, new: usize) -> usi
     old
 }
 
-// v is a member of the piece p.
-fn is_member(frag: &[u32], n: usize, p: usize, v: usize) -> bool
-    requires { ⌜ Wide n (now frag) × (v < n) ⌝ }
-    ensures { λ r. ⌜ r ≡ member (section n 7 (now (frag .entry))) p v ⌝ }
-{
-    frag[7 * n + v] as usize == p
-}
-
 // The best note of the members of the piece p; 0 where none is noted.
 pub(crate) fn best_note(frag: &[u32], n: usize, p: usize) -> usize
-    requires { ⌜ Noting n (now frag) ⌝ }
+    requires { ⌜ Noting n p (now frag) ⌝ }
     ensures { λ r. ⌜ (r ≡ noted (forestIn n (now (frag .entry))) (section n 7 (now (frag .entry))) p n) × (r ≤ n) ⌝ }
 {
     let mut best = 0;
-    let mut v = 0;
+    let mut v = p;
     while v < n {
-        if is_member(frag, n, p, v) {
-            best = better_note(frag, n, best, frag[2 * n + v] as usize);
-        }
-        v += 1;
+        best = better_note(frag, n, best, frag[2 * n + v] as usize);
+        v = next_member(frag, n, v);
     }
     best
 }
 
 // The smallest member of the piece p that has this note.
 fn first_noted(frag: &[u32], n: usize, p: usize, note: usize) -> usize
-    requires { ⌜ Wide n (now frag) ⌝ }
+    requires { ⌜ Chained n p (now frag) ⌝ }
     ensures { λ r. ⌜ r ≡ firstNoted n (forestIn n (now (frag .entry))) (section n 7 (now (frag .entry))) p note ⌝ }
 {
-    let mut v = 0;
+    let mut v = p;
     while v < n {
-        if is_member(frag, n, p, v) {
-            if frag[2 * n + v] as usize == note {
-                return v;
-            }
+        if frag[2 * n + v] as usize == note {
+            return v;
         }
-        v += 1;
+        v = next_member(frag, n, v);
     }
     v
 }
 
 // The top of the piece p, of which this is the best note.
 pub(crate) fn top_of(frag: &[u32], n: usize, p: usize, note: usize) -> usize
-    requires { ⌜ Wide n (now frag) ⌝ }
+    requires { ⌜ Chained n p (now frag) ⌝ }
     ensures { λ r. ⌜ r ≡ topBy n (forestIn n (now (frag .entry))) (section n 7 (now (frag .entry))) p note ⌝ }
 {
     if note == 0 {
@@ -84,17 +74,15 @@ pub(crate) fn top_of(frag: &[u32], n: usize, p: usize, note: usize) -> usize
 
 // Some member of the piece p carries a lost mark.
 pub(crate) fn is_lost(frag: &[u32], n: usize, p: usize) -> bool
-    requires { ⌜ Wide n (now frag) ⌝ }
+    requires { ⌜ Chained n p (now frag) ⌝ }
     ensures { λ r. ⌜ r ≡ lost n (forestIn n (now (frag .entry))) (section n 7 (now (frag .entry))) p ⌝ }
 {
-    let mut v = 0;
+    let mut v = p;
     while v < n {
-        if is_member(frag, n, p, v) {
-            if frag[3 * n + v] != 0 {
-                return true;
-            }
+        if frag[3 * n + v] != 0 {
+            return true;
         }
-        v += 1;
+        v = next_member(frag, n, v);
     }
     false
 }

@@ -6,8 +6,11 @@ ghost use Rattle.state.specs.Layout.{forestIn};
 ghost use Rattle.state.specs.Test.{isBuilding};
 ghost use Rattle.state.specs.Close.{closeIn};
 ghost use Rattle.state.specs.Told.{closedTold};
-ghost use Rattle.building.specs.Closing.{Wide, Labelable, Labels, Closable, PlacesAll, Endable, EndsPass, dueAt};
+ghost use Rattle.building.specs.Closing.{Labelable, Labels, MayClose, PlacesAll, Endable, Prepares, EndsPass, dueAt};
+ghost use Rattle.building.specs.Walk.{Wide};
+use crate::arrange::arrange;
 use crate::head::head;
+use crate::members::chain_members;
 use crate::path::place_piece;
 use crate::pieces::find;
 use crate::pieces::gather;
@@ -43,7 +46,7 @@ fn is_due(frag: &[u32], n: usize, p: usize) -> bool
 
 // The pieces are placed by smallest member.
 fn place_all(frag: &mut [u32], held: &[u32], n: usize, count: usize)
-    requires { ⌜ Closable n count (now frag) (now held) ⌝ }
+    requires { ⌜ MayClose n count (now frag) (now held) ⌝ }
     ensures { λ r. ⌜ PlacesAll n count (now (frag .entry)) (now (held .entry)) (now (frag .exit)) ⌝ }
 {
     let mut p = 0;
@@ -55,13 +58,24 @@ fn place_all(frag: &mut [u32], held: &[u32], n: usize, count: usize)
     }
 }
 
+// The pieces get their labels, their members are chained, and the held links are arranged for the walks.
+fn prepare(frag: &mut [u32], held: &mut [u32], n: usize, count: usize)
+    requires { ⌜ Endable n count (now frag) (now held) ⌝ }
+    ensures { λ r. ⌜ Prepares n count (now (frag .entry)) (now (held .entry)) (now (frag .exit)) (now (held .exit)) ⌝ }
+{
+    gather(frag, held, n, count);
+    label_all(frag, n);
+    wipe(frag, 4 * n, 7 * n);
+    chain_members(frag, n);
+    arrange(frag, held, n, count);
+}
+
 // The pass ends: its pieces are placed, and all but the forest is cleared.
 pub(crate) fn end_pass(frag: &mut [u32], held: &mut [u32], n: usize, count: usize)
     requires { ⌜ Endable n count (now frag) (now held) ⌝ }
     ensures { λ r. ⌜ EndsPass n count (now (frag .entry)) (now (held .entry)) (now (frag .exit)) (now (held .exit)) ⌝ }
 {
-    gather(frag, held, n, count);
-    label_all(frag, n);
+    prepare(frag, held, n, count);
     place_all(frag, held, n, count);
     wipe(frag, 2 * n, 16 * n);
     wipe(held, 0, count);

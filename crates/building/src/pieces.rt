@@ -1,20 +1,25 @@
 // The pieces that the held links make, in scratch: by pointers that only go to smaller members, with sizes and counts at the smallest.
 ghost use mathlib.Core.Path.{_≡_};
 ghost use Prim.Native.Nat.{_<_};
-ghost use lib.ListN.{length};
-ghost use Rattle.building.specs.Pieces.{Pointing, LabelIs, Joinable, Joins, Gatherable, Gathers};
+ghost use Rattle.building.specs.Pieces.{Pointing, Finds, Joinable, Joins, Gatherable, Gathers};
 ghost use Rattle.building.specs.Laws.Pieces.{Countable, counted, Growable, grown, Unitable, united};
 use crate::words::high_end;
 use crate::words::low_end;
 
-// The smallest member of v's piece.
-pub(crate) fn find(frag: &[u32], n: usize, v: usize) -> usize
+// The smallest member of v's piece. Each fragment on the way points two steps on afterwards, so that the next way is shorter.
+pub(crate) fn find(frag: &mut [u32], n: usize, v: usize) -> usize
     requires { ⌜ Pointing n (now frag) × (v < n) ⌝ }
-    ensures { λ r. ⌜ LabelIs n (now (frag .entry)) v r ⌝ }
+    ensures { λ r. ⌜ Finds n v (now (frag .entry)) r (now (frag .exit)) ⌝ }
 {
     let mut u = v;
     while frag[4 * n + u] != 0 {
-        u = frag[4 * n + u] as usize - 1;
+        let p = frag[4 * n + u] as usize - 1;
+        let up = frag[4 * n + p];
+        if up == 0 {
+            return p;
+        }
+        frag[4 * n + u] = up;
+        u = up as usize - 1;
     }
     u
 }

@@ -1,7 +1,8 @@
 // The building rules B2 and B3: what the links of a block leave in the two tables.
 ghost use mathlib.Core.Path.{_≡_};
 ghost use Rattle.rules.specs.Building.{buildLink};
-ghost use Rattle.building.specs.Telling.{heldTables, Leaves, Ends, Telling, Notable, noting, Rest, Tells, Tellable, Told};
+ghost use Rattle.building.specs.Pieces.{Ends};
+ghost use Rattle.building.specs.Telling.{heldTables, Leaves, Telling, Notable, noting, Rest, Tells, Tellable, Told};
 use crate::choose::better_note;
 use crate::hold::hold_link;
 use crate::pieces::gather;
@@ -20,7 +21,7 @@ fn note_link(frag: &mut [u32], n: usize, u: usize, p: usize)
     frag[2 * n + u] = note as u32;
 }
 
-// One link, by which of its ends are placed. Returns how many links are held now.
+// One link, which begins at byte `at` of the block, by which of its ends are placed. Returns how many links are held now.
 fn build_link(
     frag: &mut [u32],
     held: &mut [u32],
@@ -29,6 +30,9 @@ fn build_link(
     count: usize,
     a: usize,
     b: usize,
+    told: u32,
+    block: &[u8],
+    at: usize,
 ) -> usize
     requires { ⌜ Telling n k count (now frag) (now held) × Ends n a b ⌝ }
     ensures { λ r. ⌜ Leaves n k count (now (frag .entry)) (now (held .entry)) r (now (frag .exit)) (now (held .exit)) (buildLink n k (heldTables n count (now (frag .entry)) (now (held .entry))) (a, b)) ⌝ }
@@ -44,7 +48,7 @@ fn build_link(
         note_link(frag, n, a, b);
         return count;
     }
-    hold_link(frag, held, n, k, count, a, b)
+    hold_link(frag, held, n, k, count, a, b, told, block, at)
 }
 
 // The links of a block that was scanned, one after another. Returns how many links are held now.
@@ -66,7 +70,9 @@ fn tell_links(
     while at < block.len() {
         match lists::link_at(n as u32, told, block, at) {
             Link::Ends(a, b, next) => {
-                count = build_link(frag, held, n, k, count, a as usize, b as usize);
+                let a = a as usize;
+                let b = b as usize;
+                count = build_link(frag, held, n, k, count, a, b, told, block, at);
                 told += 1;
                 at = next;
             }

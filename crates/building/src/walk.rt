@@ -1,56 +1,119 @@
-// The walk of a piece along the held links.
+// The walk of a piece along the held links, which stand arranged. Two cursors for each fragment reached: no neighbour that it passed is looked at again.
 ghost use mathlib.Core.Path.{_≡_};
-ghost use Prim.Native.Nat.{_<_, _≤_};
+ghost use Prim.Native.Nat.{_<_};
 ghost use lib.ListN.{length};
-ghost use Rattle.rules.specs.Building.{nextOf};
-ghost use Rattle.building.specs.Closing.{Wide, Linking, otherEnd, Nearer, putAt, hungAt, Hangable, Walkable, Walks, Reachable, deeper, reachedAt};
-ghost use Rattle.building.specs.Telling.{heldTables};
-use crate::words::high_end;
-use crate::words::low_end;
+ghost use Rattle.building.specs.Arranged.{greaterAt, afterAt};
+ghost use Rattle.building.specs.Walk.{Wide, cursorsAt, enteredAt, Found, Findable, Seekable, SeeksSmaller, SeeksGreater, Seeks, putAt, hungAt, Hangable, Reachable, deeper, reachedAt, MayWalk, Walks};
+use crate::words::RADIX;
 
-// The other end of the held link i where it is one of v's; n where it is not.
-fn other_end(held: &[u32], i: usize, n: usize, v: usize) -> usize
+// The neighbour at a place among the greater neighbours of a fragment.
+fn greater_at(held: &[u32], i: usize) -> usize
     requires { ⌜ i < length (now held) ⌝ }
-    ensures { λ r. ⌜ r ≡ otherEnd n (now (held .entry)) i v ⌝ }
+    ensures { λ r. ⌜ r ≡ greaterAt (now (held .entry)) i ⌝ }
 {
-    let a = low_end(held, i);
-    let b = high_end(held, i);
-    if a == v {
-        return b;
+    (held[i] % RADIX) as usize
+}
+
+// Of the neighbour at a place, the next smaller neighbour after the fragment whose place it is; that fragment where there is none.
+fn after_at(held: &[u32], i: usize) -> usize
+    requires { ⌜ i < length (now held) ⌝ }
+    ensures { λ r. ⌜ r ≡ afterAt (now (held .entry)) i ⌝ }
+{
+    (held[i] / RADIX) as usize
+}
+
+// The place of v among the greater neighbours of a.
+fn place_of(frag: &[u32], held: &[u32], n: usize, a: usize, v: usize) -> usize
+    requires { ⌜ Findable n a v (now frag) (now held) ⌝ }
+    ensures { λ r. ⌜ Found n a v (now (frag .entry)) (now (held .entry)) r ⌝ }
+{
+    let mut low = frag[4 * n + a] as usize;
+    let mut high = frag[4 * n + (a + 1)] as usize;
+    while low + 1 < high {
+        let middle = (low + high) / 2;
+        if v < greater_at(held, middle) {
+            high = middle;
+        } else {
+            low = middle;
+        }
     }
-    if b == v {
-        return a;
+    low
+}
+
+// One more than the next unplaced one of the smaller neighbours of v; 0 where the walk is through with them.
+fn next_smaller(frag: &[u32], held: &[u32], n: usize, v: usize) -> usize
+    requires { ⌜ Seekable n v (now frag) (now held) ⌝ }
+    ensures { λ r. ⌜ SeeksSmaller n v r (now (frag .entry)) (now (held .entry)) ⌝ }
+{
+    let mut s = frag[14 * n + v] as usize;
+    while s != 0 {
+        let a = s - 1;
+        if frag[n + a] == 0 {
+            return s;
+        }
+        let i = place_of(frag, held, n, a, v);
+        let w = after_at(held, i);
+        if w == a {
+            return 0;
+        }
+        s = w + 1;
+    }
+    0
+}
+
+// The place of the next unplaced one of the greater neighbours of v, or the place where they end.
+fn next_greater(frag: &[u32], held: &[u32], n: usize, v: usize) -> usize
+    requires { ⌜ Seekable n v (now frag) (now held) ⌝ }
+    ensures { λ r. ⌜ SeeksGreater n v r (now (frag .entry)) (now (held .entry)) ⌝ }
+{
+    let end = frag[4 * n + (v + 1)] as usize;
+    let mut i = frag[15 * n + v] as usize;
+    while i < end {
+        let w = greater_at(held, i);
+        if frag[n + w] == 0 {
+            return i;
+        }
+        i += 1;
+    }
+    i
+}
+
+// The cursors of v are kept.
+fn keep_cursors(frag: &mut [u32], n: usize, v: usize, s: u32, g: u32)
+    requires { ⌜ Wide n (now frag) × (v < n) ⌝ }
+    ensures { λ r. ⌜ now (frag .exit) ≡ cursorsAt n v s g (now (frag .entry)) ⌝ }
+{
+    frag[14 * n + v] = s;
+    frag[15 * n + v] = g;
+}
+
+// The smallest unplaced neighbour of v; n where there is none.
+fn next_of(frag: &mut [u32], held: &[u32], n: usize, v: usize) -> usize
+    requires { ⌜ Seekable n v (now frag) (now held) ⌝ }
+    ensures { λ r. ⌜ Seeks n v r (now (frag .entry)) (now (held .entry)) (now (frag .exit)) ⌝ }
+{
+    let s = next_smaller(frag, held, n, v);
+    if s != 0 {
+        frag[14 * n + v] = s as u32;
+        return s - 1;
+    }
+    let i = next_greater(frag, held, n, v);
+    let end = frag[4 * n + (v + 1)] as usize;
+    keep_cursors(frag, n, v, 0, i as u32);
+    if i < end {
+        return greater_at(held, i);
     }
     n
 }
 
-// The smaller of x and the best so far, where x is unplaced.
-fn nearer(frag: &[u32], n: usize, x: usize, best: usize) -> usize
-    requires { ⌜ Wide n (now frag) × (best ≤ n) ⌝ }
-    ensures { λ r. ⌜ Nearer n (now (frag .entry)) x best r ⌝ }
+// The walk comes to v: the cursors stand at its first neighbours.
+fn enter(frag: &mut [u32], n: usize, v: usize)
+    requires { ⌜ Wide n (now frag) × (v < n) ⌝ }
+    ensures { λ r. ⌜ now (frag .exit) ≡ enteredAt n v (now (frag .entry)) ⌝ }
 {
-    if best <= x {
-        return best;
-    }
-    if frag[n + x] != 0 {
-        return best;
-    }
-    x
-}
-
-// The smallest unplaced neighbour of v along the held links; n where there is none.
-fn next_of(frag: &[u32], held: &[u32], n: usize, count: usize, v: usize) -> usize
-    requires { ⌜ Linking n count (now frag) (now held) ⌝ }
-    ensures { λ r. ⌜ r ≡ nextOf n (heldTables n count (now (frag .entry)) (now (held .entry))) v ⌝ }
-{
-    let mut best = n;
-    let mut i = 0;
-    while i < count {
-        let x = other_end(held, i, n, v);
-        best = nearer(frag, n, x, best);
-        i += 1;
-    }
-    best
+    let s = frag[6 * n + v];
+    let g = frag[4 * n + v];
+    keep_cursors(frag, n, v, s, g);
 }
 
 // A fragment is placed: its parent, and one more than its level.
@@ -83,6 +146,7 @@ fn reach(frag: &mut [u32], n: usize, at: usize, x: usize, deepest: usize) -> usi
     let r = frag[n + at] + 1;
     let most = frag[n + deepest];
     put(frag, n, x, at, r);
+    enter(frag, n, x);
     if most < r {
         return x;
     }
@@ -91,15 +155,16 @@ fn reach(frag: &mut [u32], n: usize, at: usize, x: usize, deepest: usize) -> usi
 
 // The whole walk from a top that is placed; the deepest member.
 pub(crate) fn walk(frag: &mut [u32], held: &[u32], n: usize, count: usize, top: usize) -> usize
-    requires { ⌜ Walkable n count top (now frag) (now held) ⌝ }
+    requires { ⌜ MayWalk n count top (now frag) (now held) ⌝ }
     ensures { λ r. ⌜ Walks n count top r (now (frag .entry)) (now (held .entry)) (now (frag .exit)) ⌝ }
 {
+    enter(frag, n, top);
     let mut left = 2 * n;
     let mut at = top;
     let mut deepest = top;
     while left > 0 {
         left -= 1;
-        let x = next_of(frag, held, n, count, at);
+        let x = next_of(frag, held, n, at);
         if x < n {
             deepest = reach(frag, n, at, x, deepest);
             at = x;

@@ -151,7 +151,7 @@ moved-groups k (suc groups) least (b ∷ s) at = simp (moved-pick, ← add-suc, 
 
 -- What is written is read.
 
-same-number : {a b p q : ℕ} → a ≡ b → p ≡ q → _≡_ {A = Answer Numeral} (gives (record { value = a; next = p })) (gives (record { value = b; next = q }))
+pub same-number : {a b p q : ℕ} → a ≡ b → p ≡ q → _≡_ {A = Answer Numeral} (gives (record { value = a; next = p })) (gives (record { value = b; next = q }))
 same-number d e = rw (d, e)
 
 module _ (groups least v : ℕ) (rest : List ℕ) (at : ℕ) where

@@ -1,17 +1,18 @@
--- The reader's loop: each byte that it takes leaves the rest to say the whole answer, and no sum on the way outgrows the groups.
+-- The reader's answers: what the bytes say as far as its tests have come, and that no sum on the way outgrows a word.
 -- Assumes nothing.
-use Prim.Native.Nat.{ℕ, suc, _+_, _-_, _*_, _^_, _%_, _<_, _≤_}
+use Prim.Native.Nat.{ℕ, suc, _+_, _*_, _/_, _%_, _<_, _≤_}
 use native.Mathlib.Omega.{arith}
-use native.Mathlib.Nat.{mul-le-mul-left, mul-add, mul-assoc, pow-suc, pow-le-pow-right, zero-add, one-mul, add-assoc, sub-zero}
+use native.Mathlib.Decide.{decLt}
 use native.Mathlib.Numerals.{add-one}
-use mathlib.Core.Path.{_≡_, refl}
+use mathlib.Core.Path.{_≡_, sym, ap, _∙_}
 use mathlib.Core.List.{List}
 use lib.Dec.{ltb}
 use lib.ListN.{length, drop, getD, drop-of-length-le}
 use lib.Seq.{drop-cons}
 use Rattle.base.specs.Pick.{pick, tests}
 use Rattle.base.specs.Answer.{Answer, gives, refuses}
-use Rattle.numbers.specs.Number.{Numeral, onto, readGroups, atMost, readUpTo}
+use Rattle.numbers.specs.Number.{Numeral, valueMost, onto, readGroups, atMost, readUpTo, readNumber}
+use Rattle.numbers.specs.Groups.{same-number}
 
 -- One group of `suc further` that are left.
 module _ (further least : ℕ) (s : List ℕ) (at : ℕ) where
@@ -19,84 +20,108 @@ module _ (further least : ℕ) (s : List ℕ) (at : ℕ) where
   unfolding readGroups
   group-end h = rw (drop-of-length-le s h)
 
-  pub group-step : at < length s → readGroups (suc further) least (drop at s) at ≡
-      pick (ltb (getD s at 0) 128)
-      (pick (ltb (getD s at 0) least) (refuses 7 0) (gives (record { value = getD s at 0; next = at + 1 })))
-      (onto (getD s at 0 % 128) 128 (readGroups further 1 (drop (at + 1) s) (at + 1)))
-  unfolding readGroups
-  group-step h = simp add-one (rw (drop-cons s at 0))
+  module _ (h : at < length s) (b : ℕ) (e : b ≡ getD s at 0) where
+    group-step : readGroups (suc further) least (drop at s) at ≡
+        pick (ltb b 128)
+        (pick (ltb b least) (refuses 7 0) (gives (record { value = b; next = at + 1 })))
+        (onto (b % 128) 128 (readGroups further 1 (drop (at + 1) s) (at + 1)))
+    unfolding readGroups
+    group-step = rw e (simp add-one (rw (drop-cons s at 0)))
 
--- A group on top of groups.
-onto-onto : (low scale b : ℕ) (a : Answer Numeral) → onto low scale (onto b 128 a) ≡ onto (low + scale * b) (scale * 128) a
-unfolding onto
-onto-onto low scale b (gives n) = simp (mul-add, mul-assoc, ← add-assoc)
-onto-onto low scale b (refuses number place) = refl
+    group-more : 128 ≤ b → readGroups (suc further) least (drop at s) at ≡ onto (b % 128) 128 (readGroups further 1 (drop (at + 1) s) (at + 1))
+    group-more k = group-step ∙ simp tests
 
-onto-none : (a : Answer Numeral) → onto 0 1 a ≡ a
-unfolding onto
-onto-none (gives n) = simp (zero-add, one-mul)
-onto-none (refuses number place) = refl
+    group-low : b < 128 → b < least → readGroups (suc further) least (drop at s) at ≡ refuses 7 0
+    group-low k l = group-step ∙ simp tests
 
--- After `done` groups: what the bytes from `next` on say, on top of `value`, is the whole answer.
-pub record Going (groups most : ℕ) (s : List ℕ) (at value scale least next done : ℕ) : Type 0 where
-  pub left : atMost most (onto value scale (readGroups (groups - done) least (drop next s) next)) ≡ readUpTo groups most s at
-  pub power : scale ≡ 128 ^ done
-  pub small : value < scale
+    group-last : b < 128 → least ≤ b → readGroups (suc further) least (drop at s) at ≡ gives (record { value = b; next = at + 1 })
+    group-last k l = group-step ∙ simp tests
 
-pub going-starts : (groups most : ℕ) (s : List ℕ) (at : ℕ) → Going groups most s at 0 1 0 at 0
-unfolding readUpTo
-going-starts groups most s at = record { left = simp (onto-none, sub-zero); power = refl; small = omega arith }
+-- Whether a third byte follows a second byte `y`: `more` is 1 where it does, else 0.
+pub data Follows (y : ℕ) : (more : ℕ) → Type 0 where
+  none : y < 128 → Follows y 0
+  third : 128 ≤ y → Follows y 1
 
-module _ {groups most : ℕ} {s : List ℕ} {at value scale least next done : ℕ} (g : Going groups most s at value scale least next done) where
-  open Going g using (left, power, small)
+pub follows : (y : ℕ) → y < 256 → Follows y (y / 128)
+follows y h =
+    elim (decLt y 128) [
+      | yes k ↦ let e : y / 128 ≡ 0 = omega arith in rw e (none k)
+      | no k ↦ let e : y / 128 ≡ 1 = omega arith in rw e (third (omega arith))
+    ]
 
-  -- The groups that are left, as the definition counts them.
-  at-left : (k : ℕ) → groups - done ≡ k → atMost most (onto value scale (readGroups k least (drop next s) next)) ≡ readUpTo groups most s at
-  at-left k e = (rw e at left)
+pub third-small : {y more : ℕ} → Follows y more → (z : ℕ) → z < 256 → (more ≤ 1) × (more * z < 256)
+third-small (none k) z h = (omega arith, omega arith)
+third-small (third k) z h = (omega arith, omega arith)
 
-  pub going-out : groups ≤ done → refuses 7 0 ≡ readUpTo groups most s at
-  unfolding onto atMost readGroups
-  going-out h = at-left 0 (omega arith)
+-- What the bytes `x`, `y` and, where it follows, `z` say.
+abbrev pub valueOf : (x y z more : ℕ) → ℕ
+valueOf x y z more = x % 128 + y % 128 * 128 + more * z * 16384
 
-  module _ (h : done < groups) where
-    some : atMost most (onto value scale (readGroups (suc (groups - (done + 1))) least (drop next s) next)) ≡ readUpTo groups most s at
-    some = at-left (suc (groups - (done + 1))) (omega arith)
+-- The least that needs so many groups.
+abbrev pub leastOf : (more : ℕ) → ℕ
+leastOf more = 128 + more * 16256
 
-    pub going-end : length s ≤ next → refuses 8 0 ≡ readUpTo groups most s at
-    unfolding onto atMost
-    going-end l = (rw (group-end (groups - (done + 1)) least s next l) at some)
+not-past : {v next : ℕ} → v ≤ valueMost → gives (record { value = v; next = next }) ≡ atMost valueMost (gives (record { value = v; next = next }))
+unfolding atMost
+not-past h = simp tests
 
-    -- 128 units of this group are one of the next, and the greatest number of groups bounds them all.
-    pub going-room : scale * 128 ≤ 128 ^ groups
-    going-room = rw (power, ← pow-suc) (pow-le-pow-right (omega arith) h)
+module _ (s : List ℕ) (at : ℕ) where
+  pub read-end : length s ≤ at → refuses 8 0 ≡ readNumber s at
+  unfolding readNumber readUpTo atMost
+  read-end h = ap (atMost valueMost) (sym (group-end 2 0 s at h))
 
-    pub going-fits : (d : ℕ) → d < 128 → value + scale * d < 128 ^ groups
-    going-fits d k = omega (arith, going-room, mul-le-mul-left {m = d} {n = 127} scale (omega arith))
+  module _ (h : at < length s) (x : ℕ) (p : x ≡ getD s at 0) where
+    pub read-one : x < 128 → gives (record { value = x; next = at + 1 }) ≡ readNumber s at
+    unfolding readNumber readUpTo
+    read-one k = not-past (omega arith) ∙ ap (atMost valueMost) (sym (group-last 2 0 s at h x p k (omega arith)))
 
-    module _ (l : next < length s) (b : ℕ) (e : b ≡ getD s next 0) where
-      stepped : atMost most (onto value scale (
-          pick (ltb b 128)
-          (pick (ltb b least) (refuses 7 0) (gives (record { value = b; next = next + 1 })))
-          (onto (b % 128) 128 (readGroups (groups - (done + 1)) 1 (drop (next + 1) s) (next + 1))))) ≡ readUpTo groups most s at
-      stepped = rw e (rw (group-step (groups - (done + 1)) least s next l) at some)
+    module _ (k : 128 ≤ x) where
+      -- The whole answer, by what the bytes behind the first say.
+      behind-one : (a : Answer Numeral) → readGroups 2 1 (drop (at + 1) s) (at + 1) ≡ a → atMost valueMost (onto (x % 128) 128 a) ≡ readNumber s at
+      unfolding readNumber readUpTo
+      behind-one a e = sym (ap (atMost valueMost) (group-more 2 0 s at h x p k ∙ ap (onto (x % 128) 128) e))
 
-      module _ (k : b < 128) where
-        pub going-long : b < least → refuses 7 0 ≡ readUpTo groups most s at
-        unfolding onto atMost
-        going-long m = (simp tests at stepped)
+      second-out : length s ≤ at + 1 → refuses 8 0 ≡ readNumber s at
+      unfolding atMost onto
+      second-out l = behind-one _ (group-end 1 1 s (at + 1) l)
 
-        module _ (m : least ≤ b) where
-          pub going-far : most < value + scale * b → refuses 7 0 ≡ readUpTo groups most s at
-          unfolding onto atMost
-          going-far f = (simp tests at stepped)
+      module _ (y : ℕ) (q : y ≡ getD s (at + 1) 0) where
+        -- The same, by what the bytes behind the second say.
+        behind-two : at + 1 < length s → 128 ≤ y → (a : Answer Numeral) → readGroups 1 1 (drop (at + 1 + 1) s) (at + 1 + 1) ≡ a
+            → atMost valueMost (onto (x % 128) 128 (onto (y % 128) 128 a)) ≡ readNumber s at
+        behind-two l m a e = behind-one _ (group-more 1 1 s (at + 1) l y q m ∙ ap (onto (y % 128) 128) e)
 
-          pub going-number : value + scale * b ≤ most → gives (record { value = value + scale * b; next = next + 1 }) ≡ readUpTo groups most s at
-          unfolding onto atMost
-          going-number f = (simp tests at stepped)
+        pub read-out : {more : ℕ} → Follows y more → length s < at + 2 + more → refuses 8 0 ≡ readNumber s at
+        unfolding atMost onto
+        read-out (none m) l = second-out (omega arith)
+        read-out (third m) l =
+            elim (decLt (at + 1) (length s)) [
+              | yes i ↦ behind-two i m _ (group-end 0 1 s (at + 1 + 1) (omega arith))
+              | no i ↦ second-out (omega arith)
+            ]
 
-      pub going-more : 128 ≤ b → Going groups most s at (value + scale * (b % 128)) (scale * 128) 1 (next + 1) (done + 1)
-      going-more k = record {
-        left = simp (tests, onto-onto) at stepped;
-        power = rw (add-one done, pow-suc, power);
-        small = omega (arith, mul-le-mul-left {m = b % 128} {n = 127} scale (omega arith));
-      }
+        module _ (z : ℕ) (r : z ≡ getD s (at + 2) 0) where
+          third-at : z ≡ getD s (at + 1 + 1) 0
+          third-at = let e : at + 1 + 1 ≡ at + 2 = omega arith in rw e r
+
+          pub read-long : {more : ℕ} → Follows y more → at + 2 + more ≤ length s → valueOf x y z more < leastOf more → refuses 7 0 ≡ readNumber s at
+          unfolding atMost onto
+          read-long (none m) l v = behind-one _ (group-low 1 1 s (at + 1) (omega arith) y q m (omega arith))
+          read-long (third m) l v = behind-two (omega arith) m _ (group-low 0 1 s (at + 1 + 1) (omega arith) z third-at (omega arith) (omega arith))
+
+          pub read-far : {more : ℕ} → Follows y more → at + 2 + more ≤ length s → valueMost < valueOf x y z more → refuses 7 0 ≡ readNumber s at
+          unfolding atMost onto readGroups
+          read-far (none m) l v = absurd (omega arith)
+          read-far (third m) l v = behind-two (omega arith) m _ (group-more 0 1 s (at + 1 + 1) (omega arith) z third-at (omega arith))
+
+          pub read-more : {more : ℕ} → Follows y more → at + 2 + more ≤ length s → leastOf more ≤ valueOf x y z more → valueOf x y z more ≤ valueMost
+              → gives (record { value = valueOf x y z more; next = at + 2 + more }) ≡ readNumber s at
+          unfolding onto
+          read-more (none m) l v f =
+              not-past f
+              ∙ ap (atMost valueMost) (same-number (omega arith) (omega arith))
+              ∙ behind-one _ (group-last 1 1 s (at + 1) (omega arith) y q m (omega arith))
+          read-more (third m) l v f =
+              not-past f
+              ∙ ap (atMost valueMost) (same-number (omega arith) (omega arith))
+              ∙ behind-two (omega arith) m _ (group-last 0 1 s (at + 1 + 1) (omega arith) z third-at (omega arith) (omega arith))

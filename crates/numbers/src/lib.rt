@@ -1,5 +1,6 @@
 // Numbers in groups of seven bits, one byte each, lowest group first. Programs above know them by these promises only.
 ghost use mathlib.Core.Path.{_≡_};
+ghost use lib.ListN.{getD};
 ghost use Rattle.base.specs.Answer.{refuses};
 ghost use Rattle.numbers.specs.Number.{readNumber, writeNumber};
 ghost use Rattle.numbers.specs.Told.{told, toldEnd, wrote};
@@ -52,39 +53,46 @@ fn wide(byte: u8) -> u64
     byte as u64
 }
 
-// The number that stands in `bytes` at position `at`.
+// The byte at `at`, 0 where none stands.
+fn byte_at(bytes: &[u8], at: usize) -> u64
+    ensures { λ r. ⌜ r ≡ getD (now (bytes .entry)) at 0 ⌝ }
+{
+    if at < bytes.len() {
+        return wide(bytes[at]);
+    }
+    0
+}
+
+// The number that stands in `bytes` at position `at`. Where a second byte follows, whether a third does is reckoned with and not asked: in a
+// long list a branch on it would be guessed wrong at every second number.
 pub fn read_number(bytes: &[u8], at: usize) -> Read
     ensures { λ r. ⌜ told r ≡ readNumber (now (bytes .entry)) at ⌝ }
 {
-    // What the groups so far say, and what a unit of the next group counts.
-    let mut value: u64 = 0;
-    let mut scale: u64 = 1;
-    // A last byte of 0 stands only alone.
-    let mut least: u64 = 0;
-    let mut next = at;
-    let mut groups: usize = 0;
-    while groups < GROUPS {
-        if next >= bytes.len() {
-            return no_number(8);
-        }
-        let byte = wide(bytes[next]);
-        next += 1;
-        if byte < 128 {
-            if byte < least {
-                return no_number(7);
-            }
-            value += scale * byte;
-            if value > VALUE_MOST as u64 {
-                return no_number(7);
-            }
-            return Read::Number(value as u32, next);
-        }
-        value += scale * (byte % 128);
-        scale *= 128;
-        least = 1;
-        groups += 1;
+    if at >= bytes.len() {
+        return no_number(8);
     }
-    no_number(7)
+    let first = wide(bytes[at]);
+    if first < 128 {
+        return Read::Number(first as u32, at + 1);
+    }
+    let second = byte_at(bytes, at + 1);
+    let third = byte_at(bytes, at + 2);
+    // 1 where a third byte follows, else 0.
+    let more = second / 128;
+    let next = at + 2 + more as usize;
+    if next > bytes.len() {
+        return no_number(8);
+    }
+    let value = first % 128 + second % 128 * 128 + more * third * 16384;
+    // Less where the last byte is 0, which stands only alone.
+    if value < 128 + more * 16256 {
+        return no_number(7);
+    }
+    // Greater where the third byte has its top bit set.
+    if value > VALUE_MOST as u64 {
+        return no_number(7);
+    }
+    Read::Number(value as u32, next)
 }
 
 // Puts the groups of `value` into `small` from index `done` on, as far as it has room. Returns the index behind the last.

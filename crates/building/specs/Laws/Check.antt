@@ -183,7 +183,7 @@ pub left-none : (h : List ℕ) (to i : ℕ) → to ≤ i → left h to i ≡ []
 left-none h to i l = let e : to - i ≡ 0 = omega arith in rw e
 
 module _ (h : List ℕ) (to i : ℕ) (l : i < to) (b : to ≤ length h) (c d : ℕ) (ec : c ≡ linkIn (getD h i 0) .0) (ed : d ≡ linkIn (getD h i 0) .1) where
-  left-next : left h to i ≡ (c, d) ∷ left h to (i + 1)
+  pub left-next : left h to i ≡ (c, d) ∷ left h to (i + 1)
   left-next =
       let q : to - i ≡ suc (to - suc i) = omega arith in
       let pair : linkIn (getD h i 0) ≡ (c, d) = λ j. (sym ec j, sym ed j) in
@@ -207,14 +207,6 @@ module _ (h : List ℕ) (to i : ℕ) (l : i < to) (b : to ≤ length h) (c d : �
     unfolding linked
     among-hit e = rw (left-next, ← e)
 
-  pub twice-more : false ≡ linked (left h to (i + 1)) c d → noneTwice (left h to (i + 1)) ≡ noneTwice (left h to i)
-  unfolding noneTwice
-  twice-more e = rw (left-next, ← e)
-
-  pub twice-hit : true ≡ linked (left h to (i + 1)) c d → false ≡ noneTwice (left h to i)
-  unfolding noneTwice
-  twice-hit e = rw (left-next, ← e)
-
 -- Nothing is left.
 module _ (h : List ℕ) (to i : ℕ) (l : to ≤ i) where
   pub ends-all : (n : ℕ) (t : Tables) → true ≡ endsFit n t (left h to i)
@@ -224,10 +216,6 @@ module _ (h : List ℕ) (to i : ℕ) (l : to ≤ i) where
   pub among-none : (u v : ℕ) → false ≡ linked (left h to i) u v
   unfolding linked
   among-none u v = rw (left-none h to i l)
-
-  pub twice-none : true ≡ noneTwice (left h to i)
-  unfolding noneTwice
-  twice-none = rw (left-none h to i l)
 
 -- The quota of a piece, by the words at p.
 module _ (n k p : ℕ) (f : List ℕ) (h : p < n) where

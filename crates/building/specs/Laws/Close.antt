@@ -75,12 +75,14 @@ module _ (s : State) (f h : List ℕ) where
 
     pub close-ends : Endable (s .n) (s .held) f h
     close-ends = record {
+      some = P .bounds .some-fragments;
       wide = record { few = P .bounds .fragments; long = P .bounds .frag-long };
       there = held-within;
       few = omega (arith, P .found .agrees .held-room, mul-le-mul (P .bounds .room) (P .bounds .fragments));
       blank = P .found .scratch;
       room = s .k;
       underway = rw same-tables on-way;
+      ends = rw same-tables (P .found .agrees .ends-fit);
     }
 
     pub close-counts : s .passes ≤ 32769

@@ -1,76 +1,68 @@
--- The end of a pass: the labels, the pieces placed, and all but the forest cleared.
+-- The end of a pass: labels, chains and arranged links, the pieces placed, and all but the forest cleared.
 -- Assumes nothing.
-use Prim.Native.Nat.{ℕ, suc, _+_, _-_, _*_, _≤_, _<_}
+use Prim.Native.Nat.{ℕ, zero, suc, _+_, _-_, _*_, _≤_, _<_}
 use mathlib.Core.Path.{_≡_, refl, sym, ap, _∙_}
-use mathlib.Core.Bool.{true, false}
-use mathlib.Core.List.{List, [], _++_, map, append-assoc}
+use mathlib.Core.Bool.{true, false, _&&_, not}
+use mathlib.Core.List.{List, [], _∷_, _++_, map, append-assoc}
+use mathlib.Core.Logic.{_≢_}
 use native.Mathlib.Omega.{arith}
 use native.Mathlib.Decide.{ℕ-discrete}
-use lib.ListN.{length, getD, set, take, drop, replicate, length-set}
-use lib.Seq.{ext-getD, getD-set-same, getD-set-other, drop-drop, take-add}
-use Rattle.base.specs.Truth.{T-true, T-false}
-use Rattle.rules.specs.Links.{Link}
+use lib.Dec.{T, ltb, ltb→lt, T-not}
+use lib.ListN.{length, getD, set, take, drop, replicate, length-set, length-take, length-replicate, getD-replicate, List·getD-append}
+use lib.Seq.{ext-getD, getD-set-same, getD-set-other, getD-take, getD-drop, getD-append-add, take-add}
+use Rattle.base.specs.Truth.{and-l, and-r, T-true, T-false}
+use Rattle.rules.specs.Links.{Link, linked}
 use Rattle.rules.specs.Search.{every}
 use Rattle.rules.specs.Tables.{Tables, placed, cleared}
 use Rattle.rules.specs.Building.{pieces, placePieces, closeBuilding, done}
 use Rattle.rules.specs.Laws.Search.{every-at, every-intro}
 use Rattle.rules.specs.Laws.Pieces.{label-in, pieces-length}
 use Rattle.rules.specs.Laws.Tables.{placed-rank, rank-placed}
-use Rattle.state.specs.Layout.{words, section, linkIn, tablesIn, forestIn, fragOf, bare}
-use Rattle.state.specs.Laws.Layout.{section-length, section-at, level-word, tables-frag-same}
+use Rattle.state.specs.Layout.{words, stored, section, linkIn, tablesIn, forestIn, fragOf, bare}
+use Rattle.state.specs.Test.{endsFit, noneTwice}
+use Rattle.state.specs.Laws.Held.{once-made}
+use Rattle.state.specs.Laws.Layout.{section-length, section-at, level-word}
 use Rattle.state.specs.Laws.Lists.{zeros}
-use Rattle.building.specs.Pieces.{Pointing, Gathered, LabelIs, Gatherable, Gathers, wiped}
-use Rattle.building.specs.Closing.{labelsIn, Labelable, Labels, Closable, PlacesAll, Endable, EndsPass}
-use Rattle.building.specs.Telling.{heldTables, holds}
-use Rattle.building.specs.Laws.Scratch.{wiped-length}
-use Rattle.building.specs.Laws.Saving.{wide-by, section-by, drop-by}
-
--- What stands gathered stands so where no word before the labels changed.
-gathered-before : (n : ℕ) (held : List Link) (f f′ : List ℕ) → length f′ ≡ length f → ((i : ℕ) → i < 7 * n → getD f′ i 0 ≡ getD f i 0) → Gathered n held f → Gathered n held f′
-gathered-before n held f f′ long same G = record {
-  pointing = record {
-    few-fragments = G .pointing .few-fragments;
-    long = omega (arith, G .pointing .long);
-    down = λ v l. omega (arith, same (4 * n + v) (omega arith), G .pointing .down v l);
-  };
-  few = G .few;
-  inside = G .inside;
-  first = λ v l e. G .first v l (sym (same (4 * n + v) (omega arith)) ∙ e);
-  next = λ v u l e. G .next v u l (sym (same (4 * n + v) (omega arith)) ∙ e);
-  size = λ p l e. ap suc (same (5 * n + p) (omega arith)) ∙ G .size p l e;
-  links = λ p l e. same (6 * n + p) (omega arith) ∙ G .links p l e;
-}
+use Rattle.building.specs.Arranged.{greaterAt, afterAt, Arrangeable, Arranges}
+use Rattle.building.specs.Pieces.{Pointing, Gathered, Finds, Gatherable, Gathers, Kept, wiped}
+use Rattle.building.specs.Closing.{labelsIn, Labelable, Labels, Chainable, Chains, PlacesAll, Endable, Prepares, EndsPass}
+use Rattle.building.specs.Telling.{heldTables}
+use Rattle.building.specs.Laws.Scratch.{wiped-length, blank-at}
+use Rattle.building.specs.Laws.Pieces.{front-at, rest-at, gathered-by}
+use Rattle.building.specs.Laws.Gather.{link-there}
+use Rattle.building.specs.Laws.Members.{membered-by}
+use Rattle.building.specs.Laws.Choosing.{label-by}
+use Rattle.building.specs.Laws.Frames.{section-by, drop-by, wide-by}
 
 -- The fragments below v have their labels.
 pub record Labelling (n : ℕ) (f₀ : List ℕ) (v : ℕ) (f : List ℕ) : Type 0 where
   pub same-long : length f ≡ length f₀
   pub found : (held : List Link) → Gathered n held f₀ → (k : ℕ) → k < v → getD f (7 * n + k) 0 ≡ getD (pieces n held) k 0
-  pub before : (i : ℕ) → i < 7 * n → getD f i 0 ≡ getD f₀ i 0
+  pub stays : (held : List Link) → Gathered n held f₀ → Gathered n held f
+  pub before : (i : ℕ) → i < stored * n → getD f i 0 ≡ getD f₀ i 0
   pub behind : (i : ℕ) → 8 * n ≤ i → getD f i 0 ≡ getD f₀ i 0
 
 pub labelling-none : (n : ℕ) (f : List ℕ) → Labelling n f 0 f
-labelling-none n f = record { same-long = refl; found = λ held G k l. absurd (omega arith); before = λ i l. refl; behind = λ i l. refl }
+labelling-none n f = record { same-long = refl; found = λ held G k l. absurd (omega arith); stays = λ held G. G; before = λ i l. refl; behind = λ i l. refl }
 
 module _ (n : ℕ) (f₀ : List ℕ) (v : ℕ) (f : List ℕ) (W : Labelable n f₀) (L : Labelling n f₀ v f) where
-  gathered-still : (held : List Link) → Gathered n held f₀ → Gathered n held f
-  gathered-still held G = gathered-before n held f₀ f (L .same-long) (L .before) G
-
   pub labelling-points : Pointing n f
-  labelling-points = gathered-still (W .held) (W .gathered) .pointing
+  labelling-points = L .stays (W .held) (W .gathered) .pointing
 
-  module _ (l : v < n) (r : ℕ) (F : LabelIs n f v r) where
-    pub label-small : r < n
-    label-small = omega (arith, F (W .held) (gathered-still (W .held) (W .gathered)), label-in n (W .held) (W .gathered .inside) v l)
+  module _ (l : v < n) (r : ℕ) (g : List ℕ) (F : Finds n v f r g) where
+    label-other : (i : ℕ) → i ≢ 7 * n + v → getD (set g (7 * n + v) r) i 0 ≡ getD g i 0
+    label-other i d = getD-set-other g (7 * n + v) i r 0 d
 
-    pub labelling-more : Labelling n f₀ (v + 1) (set f (7 * n + v) r)
+    pub labelling-more : Labelling n f₀ (v + 1) (set g (7 * n + v) r)
     labelling-more = record {
-      same-long = simp length-set (L .same-long);
-      found = λ held G k g. elim (ℕ-discrete k v) [
-        | yes e ↦ rw e (getD-set-same f (7 * n + v) r 0 (omega (arith, L .same-long, W .gathered .pointing .long)) ∙ F held (gathered-still held G))
-        | no d ↦ getD-set-other f (7 * n + v) (7 * n + k) r 0 (λ e. d (omega arith)) ∙ L .found held G k (omega arith)
+      same-long = simp length-set (F .kept .same-length ∙ L .same-long);
+      found = λ held G k h. elim (ℕ-discrete k v) [
+        | yes e ↦ rw e (getD-set-same g (7 * n + v) r 0 (omega (arith, F .kept .same-length, L .same-long, W .gathered .pointing .long)) ∙ F .label held (L .stays held G))
+        | no d ↦ label-other (7 * n + k) (λ e. d (omega arith)) ∙ rest-at (7 * n) f g (F .kept .behind) (7 * n + k) (omega arith) ∙ L .found held G k (omega arith)
       ];
-      before = λ i g. getD-set-other f (7 * n + v) i r 0 (λ e. omega arith) ∙ L .before i g;
-      behind = λ i g. getD-set-other f (7 * n + v) i r 0 (λ e. omega arith) ∙ L .behind i g;
+      stays = λ held G. gathered-by n held g (set g (7 * n + v) r) (length-set g (7 * n + v) r) (λ i h k. label-other i (λ e. omega arith)) (F .stays held (L .stays held G));
+      before = λ i h. label-other i (λ e. omega arith) ∙ front-at (stored * n) f g (F .kept .before) i h ∙ L .before i h;
+      behind = λ i h. label-other i (λ e. omega arith) ∙ rest-at (7 * n) f g (F .kept .behind) i (omega arith) ∙ L .behind i h;
     }
 
   pub labelling-all : v ≡ n → Labels n f₀ f
@@ -104,7 +96,78 @@ cleared-laid n c f₀ f h e =
     (zeros n (13 * n) (14 * n) (drop (words * n) f₀) (omega arith) ∙ ap (λ (r : List ℕ). replicate {A = ℕ} n 0 ++ r)
     (zeros n (12 * n) (13 * n) (drop (words * n) f₀) (omega arith))))
 
--- From the gathered pieces to the forest.
+-- Words of a table of which a part was cleared.
+module _ (from to : ℕ) (l : List ℕ) (b : from ≤ to) (h : to ≤ length l) where
+  front : length (take from l) ≡ from
+  front = simp length-take (omega arith)
+
+  behind-front : (i : ℕ) → from ≤ i → getD (wiped from to l) i 0 ≡ getD (replicate (to - from) 0 ++ drop to l) (i - from) 0
+  unfolding wiped
+  behind-front i g =
+      let e : i ≡ length (take from l) + (i - from) = omega (arith, front) in
+      ap (λ (j : ℕ). getD (take from l ++ (replicate (to - from) 0 ++ drop to l)) j 0) e ∙ getD-append-add (take from l) (replicate (to - from) 0 ++ drop to l) (i - from) 0
+
+  wiped-before : (i : ℕ) → i < from → getD (wiped from to l) i 0 ≡ getD l i 0
+  unfolding wiped
+  wiped-before i g = List·getD-append (take from l) (replicate (to - from) 0 ++ drop to l) 0 i (omega (arith, front)) ∙ getD-take from l i 0 g
+
+  wiped-within : (i : ℕ) → from ≤ i → i < to → getD (wiped from to l) i 0 ≡ 0
+  wiped-within i g k =
+      let e : length (replicate {A = ℕ} (to - from) 0) ≡ to - from = length-replicate (to - from) 0 in
+      behind-front i g ∙ List·getD-append (replicate (to - from) 0) (drop to l) 0 (i - from) (omega arith) ∙ getD-replicate (to - from) (i - from) 0 0 (omega arith)
+
+  wiped-behind : (i : ℕ) → to ≤ i → getD (wiped from to l) i 0 ≡ getD l i 0
+  wiped-behind i g =
+      let e : length (replicate {A = ℕ} (to - from) 0) ≡ to - from = length-replicate (to - from) 0 in
+      let k : i - from ≡ length (replicate {A = ℕ} (to - from) 0) + (i - to) = omega arith in
+      let m : to + (i - to) ≡ i = omega arith in
+      behind-front i (omega arith) ∙ ap (λ (j : ℕ). getD (replicate (to - from) 0 ++ drop to l) j 0) k ∙ getD-append-add (replicate (to - from) 0) (drop to l) (i - to) 0
+      ∙ getD-drop to l (i - to) 0 ∙ ap (λ (j : ℕ). getD l j 0) m
+
+-- Words of a table of which only the sections of the pieces changed.
+module _ {n : ℕ} {f f′ : List ℕ} (K : Kept n f f′) where
+  kept-before : (i : ℕ) → i < 4 * n → getD f′ i 0 ≡ getD f i 0
+  kept-before i l = front-at (4 * n) f f′ (K .before) i l
+
+  kept-behind : (i : ℕ) → 7 * n ≤ i → getD f′ i 0 ≡ getD f i 0
+  kept-behind i l = rest-at (7 * n) f f′ (K .behind) i l
+
+-- The held words, by what the test asks of their links.
+ends-at : (n : ℕ) (t : Tables) (h : List ℕ) (m i : ℕ) → T (endsFit n t (map linkIn (take m h))) → i < m → m ≤ length h → (afterAt h i < greaterAt h i) × (greaterAt h i < n)
+unfolding endsFit linkIn
+ends-at n t [] m i x l b = absurd (omega arith)
+ends-at n t (w ∷ h) zero i x l b = absurd (omega arith)
+ends-at n t (w ∷ h) (suc m) zero x l b =
+    let (p, q) = linkIn w in
+    let y = and-l (ltb p q && (ltb q n && (not (placed t p) && not (placed t q)))) _ x in
+    (ltb→lt p q (and-l (ltb p q) _ y), ltb→lt q n (and-l (ltb q n) _ (and-r (ltb p q) _ y)))
+ends-at n t (w ∷ h) (suc m) (suc i) x l b =
+    let (p, q) = linkIn w in
+    ends-at n t h m i (and-r (ltb p q && (ltb q n && (not (placed t p) && not (placed t q)))) _ x) (omega arith) (omega arith)
+
+once-at : (h : List ℕ) (m i j : ℕ) → T (noneTwice (map linkIn (take m h))) → i < j → j < m → m ≤ length h → getD h i 0 ≢ getD h j 0
+unfolding noneTwice linkIn
+once-at [] m i j x l g b e = omega arith
+once-at (w ∷ h) zero i j x l g b e = omega arith
+once-at (w ∷ h) (suc m) i zero x l g b e = omega arith
+once-at (w ∷ h) (suc m) zero (suc j) x l g b e =
+    let s = map linkIn (take m h) in
+    let (p, q) = linkIn w in
+    T-not (linked s p q) (and-l (not (linked s p q)) _ x) (rw e (link-there h m j (omega arith) (omega arith)))
+once-at (w ∷ h) (suc m) (suc i) (suc j) x l g b e =
+    let s = map linkIn (take m h) in
+    let (p, q) = linkIn w in
+    once-at h m i j (and-r (not (linked s p q)) _ x) (omega arith) (omega arith) (omega arith) e
+
+-- Tables whose stored words are the same.
+stored-tables : (n c : ℕ) (f f′ h : List ℕ) → 4 * n ≤ length f → length f′ ≡ length f → ((i : ℕ) → i < 4 * n → getD f′ i 0 ≡ getD f i 0) → heldTables n c f′ h ≡ heldTables n c f h
+unfolding tablesIn
+stored-tables n c f f′ h l e same = rw (part 0 (omega arith), part 1 (omega arith), part 2 (omega arith), part 3 (omega arith))
+  where
+    part : (j : ℕ) → suc j * n ≤ 4 * n → section n j f′ ≡ section n j f
+    part j g = section-by n j j f′ f (omega arith) (omega arith) (λ v k. same (j * n + v) (omega arith))
+
+-- From the table as it was found to the pieces that can be placed.
 module _ (n c : ℕ) (f h : List ℕ) (W : Endable n c f h) where
   pub end-gatherable : Gatherable n f h c
   unfolding tablesIn
@@ -122,52 +185,114 @@ module _ (n c : ℕ) (f h : List ℕ) (W : Endable n c f h) where
     end-labelable = record { held = map linkIn (take c h); gathered = G .gathered }
 
     module _ (f₂ : List ℕ) (L : Labels n f₁ f₂) where
-      long-two : length f₂ ≡ length f
-      long-two = L .same-long ∙ G .kept .same-length
+      long₂ : length f₂ ≡ length f
+      long₂ = L .same-long ∙ G .kept .same-length
 
-      same-section : (j : ℕ) → suc j * n ≤ 7 * n → section n j f₂ ≡ section n j f₁
-      same-section j l = section-by n j j f₂ f₁ (omega (arith, W .wide .long, long-two)) (omega (arith, W .wide .long, G .kept .same-length)) (λ v g. L .before (j * n + v) (omega arith))
+      pub end-wipable : 7 * n ≤ length f₂
+      end-wipable = omega (arith, W .wide .long, long₂)
 
-      tables-two : heldTables n c f₂ h ≡ heldTables n c f h
-      unfolding tablesIn
-      tables-two =
-          rw (same-section 0 (omega arith), same-section 1 (omega arith), same-section 2 (omega arith), same-section 3 (omega arith))
-          (tables-frag-same (holds n c) f f₁ h (G .kept .before))
+      module _ (f₃ : List ℕ) (e₃ : f₃ ≡ wiped (4 * n) (7 * n) f₂) where
+        long₃ : length f₃ ≡ length f
+        long₃ = ap length e₃ ∙ wiped-length (4 * n) (7 * n) f₂ (omega arith) end-wipable ∙ long₂
 
-      labels-two : labelsIn n f₂ ≡ pieces n (heldTables n c f h .held)
-      unfolding tablesIn
-      labels-two = L .found (map linkIn (take c h)) (G .gathered)
+        before₃ : (i : ℕ) → i < 4 * n → getD f₃ i 0 ≡ getD f i 0
+        before₃ i l = ap (λ (g : List ℕ). getD g i 0) e₃ ∙ wiped-before (4 * n) (7 * n) f₂ (omega arith) end-wipable i l ∙ L .before i l ∙ kept-before (G .kept) i l
 
-      pub end-closable : Closable n c f₂ h
-      end-closable = record {
-        wide = wide-by long-two (W .wide);
-        there = W .there;
-        room = W .room;
-        underway = rw tables-two (W .underway);
-        labels = rw tables-two labels-two;
-      }
+        blank₃ : (i : ℕ) → 4 * n ≤ i → i < 7 * n → getD f₃ i 0 ≡ 0
+        blank₃ i a b = ap (λ (g : List ℕ). getD g i 0) e₃ ∙ wiped-within (4 * n) (7 * n) f₂ (omega arith) end-wipable i a b
 
-      module _ (f₃ : List ℕ) (P : PlacesAll n c f₂ h f₃) where
-        past-three : drop (words * n) f₃ ≡ drop (words * n) f
-        past-three =
-            let e : words * n ≡ 7 * n + 9 * n = omega arith in
-            P .beside .past
-            ∙ drop-by (words * n) f₂ f₁ (L .same-long) (λ i l. L .behind i (omega arith))
-            ∙ rw (e, ← drop-drop (9 * n) (7 * n) f₁, ← drop-drop (9 * n) (7 * n) f, G .kept .behind)
+        behind₃ : (i : ℕ) → 7 * n ≤ i → getD f₃ i 0 ≡ getD f₂ i 0
+        behind₃ i l = ap (λ (g : List ℕ). getD g i 0) e₃ ∙ wiped-behind (4 * n) (7 * n) f₂ (omega arith) end-wipable i l
 
-        end-long : words * n ≤ length f₃
-        end-long = omega (arith, W .wide .long, P .beside .same-long ∙ long-two)
+        rest₃ : (i : ℕ) → 8 * n ≤ i → getD f₃ i 0 ≡ getD f i 0
+        rest₃ i l = behind₃ i (omega arith) ∙ L .behind i l ∙ kept-behind (G .kept) i (omega arith)
 
-        placed-three : heldTables n c f₃ h ≡ placePieces n (pieces n (heldTables n c f h .held)) n (heldTables n c f h)
-        placed-three = P .tables ∙ rw (tables-two, labels-two)
+        found : labelsIn n f₂ ≡ pieces n (map linkIn (take c h))
+        found = L .found (map linkIn (take c h)) (G .gathered)
 
-        pub end-laid : (f₄ h₄ : List ℕ) → f₄ ≡ wiped (2 * n) (words * n) f₃ → h₄ ≡ wiped 0 c h → EndsPass n c f h f₄ h₄
-        unfolding closeBuilding
-        end-laid f₄ h₄ e g = record {
-          same-long = ap length e ∙ wiped-length (2 * n) (words * n) f₃ (omega arith) end-long ∙ P .beside .same-long ∙ long-two;
-          frag = e ∙ cleared-laid n c f f₃ h past-three ∙ ap (λ (t : Tables). fragOf n (cleared n t) f) placed-three;
-          held = g;
+        pub end-chainable : Chainable n f₃
+        end-chainable = record {
+          wide = wide-by long₃ (W .wide);
+          labels = λ v l. omega (arith, behind₃ (7 * n + v) (omega arith), label-by n f₂ found v l, label-in n (map linkIn (take c h)) (end-gatherable .inside) v l);
+          blank = λ p l. rest₃ (9 * n + p) (omega arith) ∙ blank-at n f (W .wide .long) (W .blank) (9 * n + p) (omega arith) (omega arith);
         }
+
+        module _ (f₄ : List ℕ) (C : Chains n f₃ f₄) where
+          pub end-arrangeable : Arrangeable n c f₄ h
+          unfolding tablesIn
+          end-arrangeable = record {
+            some = W .some;
+            few = W .wide .few;
+            long = omega (arith, W .wide .long, long₃, C .same-long);
+            there = W .there;
+            blank = λ i a b. C .before i (omega arith) ∙ blank₃ i a b;
+            ends = λ i l. ends-at n (heldTables n c f h) h c i (W .ends) l (W .there);
+            once = λ i j l g. once-at h c i j (once-made (map linkIn (take c h)) (W .underway .holding .once)) l g (W .there);
+          }
+
+          module _ (f₅ h₅ : List ℕ) (A : Arranges n c f₄ h f₅ h₅) where
+            long₅ : length f₅ ≡ length f
+            long₅ = A .behind .same-long ∙ C .same-long ∙ long₃
+
+            stored₅ : (i : ℕ) → i < 4 * n → getD f₅ i 0 ≡ getD f i 0
+            stored₅ i l = A .stored i l ∙ C .before i (omega arith) ∙ before₃ i l
+
+            labels₅ : labelsIn n f₅ ≡ labelsIn n f₂
+            labels₅ = section-by n 7 7 f₅ f₂ (omega (arith, W .wide .long, long₅)) (omega (arith, W .wide .long, long₂)) (λ v l.
+                A .behind .within (7 * n + v) (omega arith) (omega arith) ∙ C .before (7 * n + v) (omega arith) ∙ behind₃ (7 * n + v) (omega arith))
+
+            tables₅ : heldTables n c f₅ h ≡ heldTables n c f h
+            tables₅ = stored-tables n c f f₅ h (omega (arith, W .wide .long)) long₅ stored₅
+
+            told₅ : labelsIn n f₅ ≡ pieces n (heldTables n c f₅ h .held)
+            unfolding tablesIn
+            told₅ = labels₅ ∙ found
+
+            pub end-prepares : Prepares n c f h f₅ h₅
+            end-prepares = record {
+              same-long = long₅;
+              stored = stored₅;
+              closable = record {
+                wide = wide-by long₅ (W .wide);
+                membered = membered-by (λ i a b. A .behind .within i a (omega arith)) (C .membered);
+                arranged = A .arranged;
+                room = W .room;
+                underway = rw tables₅ (W .underway);
+                labels = told₅;
+              };
+              past = λ i l. A .behind .past i l ∙ C .behind i (omega arith) ∙ rest₃ i (omega arith);
+              held-long = A .held-long;
+              held-past = A .held-past;
+            }
+
+-- From the pieces placed to the forest alone.
+module _ (n c : ℕ) (f h : List ℕ) (W : Endable n c f h) (f₁ h₁ : List ℕ) (P : Prepares n c f h f₁ h₁) (f₂ : List ℕ) (A : PlacesAll n c f₁ h₁ f₂) where
+  tables-one : heldTables n c f₁ h ≡ heldTables n c f h
+  tables-one = stored-tables n c f f₁ h (omega (arith, W .wide .long)) (P .same-long) (P .stored)
+
+  placed-two : heldTables n c f₂ h ≡ placePieces n (pieces n (heldTables n c f h .held)) n (heldTables n c f h)
+  placed-two = A h (P .closable) .tables ∙ rw (P .closable .labels, tables-one)
+
+  long-two : length f₂ ≡ length f
+  long-two = A h (P .closable) .beside .same-long ∙ P .same-long
+
+  end-long : words * n ≤ length f₂
+  end-long = omega (arith, W .wide .long, long-two)
+
+  past-two : drop (words * n) f₂ ≡ drop (words * n) f
+  past-two = drop-by (words * n) f₂ f long-two (λ i l. A h (P .closable) .beside .past i l ∙ P .past i l)
+
+  held-same : wiped 0 c h₁ ≡ wiped 0 c h
+  unfolding wiped
+  held-same = rw (drop-by c h₁ h (P .held-long) (P .held-past))
+
+  pub end-laid : (f₃ h₃ : List ℕ) → f₃ ≡ wiped (2 * n) (words * n) f₂ → h₃ ≡ wiped 0 c h₁ → EndsPass n c f h f₃ h₃
+  unfolding closeBuilding
+  end-laid f₃ h₃ e g = record {
+    same-long = ap length e ∙ wiped-length (2 * n) (words * n) f₂ (omega arith) end-long ∙ long-two;
+    frag = e ∙ cleared-laid n c f f₂ h past-two ∙ ap (λ (t : Tables). fragOf n (cleared n t) f) placed-two;
+    held = g ∙ held-same;
+  }
 
 -- Whether every fragment is placed, by the words of their levels.
 module _ (n : ℕ) (f : List ℕ) where

@@ -1,7 +1,7 @@
 -- Gathering the pieces of held links: none yet, and one link more, inside a piece or between two.
 -- Assumes nothing.
 use Prim.Native.Nat.{ℕ, zero, suc, _+_, _-_, _*_, _≤_, _<_, min, max}
-use mathlib.Core.Path.{_≡_, refl, sym, _∙_}
+use mathlib.Core.Path.{_≡_, sym, _∙_}
 use mathlib.Core.Bool.{Bool}
 use mathlib.Core.List.{List, [], _∷_, _++_, map, map-append}
 use mathlib.Core.Logic.{inl, inr, _≢_}
@@ -10,7 +10,7 @@ use native.Mathlib.Decide.{ℕ-discrete, decLe}
 use native.Mathlib.Numerals.{add-one}
 use lib.ListN.{length, getD, set, take, length-set, length-append, length-take}
 use lib.Dec.{T}
-use lib.Seq.{getD-set-same, getD-set-other, take-set-le, drop-set-lt, take-suc}
+use lib.Seq.{getD-set-same, getD-set-other, take-suc}
 use Rattle.rules.specs.Links.{Link, linked, tally}
 use Rattle.rules.specs.Search.{count}
 use Rattle.rules.specs.Building.{merged, pieces, member, sizeOf, heldIn}
@@ -22,24 +22,11 @@ use Rattle.rules.specs.Laws.Quota.{size-join, size-other, heldIn-join, heldIn-o
 use Rattle.state.specs.Layout.{words, stored, linkIn}
 use Rattle.state.specs.Call.{fragmentsMost}
 use Rattle.state.specs.Laws.Lists.{length-map}
-use Rattle.building.specs.Pieces.{heldMost, Gathered, Kept, LabelIs, Joinable, Joins, Gatherable, Gathers}
+use Rattle.building.specs.Pieces.{heldMost, Gathered, Kept, LabelIs, Finds, Joinable, Joins, Gatherable, Gathers}
 use Rattle.building.specs.Laws.Scratch.{Blank, blank-at}
-use Rattle.building.specs.Laws.Pieces.{counted, Countable, united, Unitable}
+use Rattle.building.specs.Laws.Pieces.{counted, Countable, united, Unitable, kept-refl, kept-trans, kept-set}
 
 -- Stores in the three sections leave the others.
-pub kept-refl : (n : ℕ) (f : List ℕ) → Kept n f f
-kept-refl n f = record { same-length = refl; before = refl; behind = refl }
-
-pub kept-trans : {n : ℕ} {f g h : List ℕ} → Kept n f g → Kept n g h → Kept n f h
-kept-trans k j = record { same-length = j .same-length ∙ k .same-length; before = j .before ∙ k .before; behind = j .behind ∙ k .behind }
-
-kept-set : (n : ℕ) (f : List ℕ) (i x : ℕ) → stored * n ≤ i → i < 7 * n → Kept n f (set f i x)
-kept-set n f i x h g = record {
-  same-length = length-set f i x;
-  before = take-set-le (stored * n) f i x h;
-  behind = drop-set-lt (7 * n) f i x g;
-}
-
 pub counted-kept : (n p : ℕ) (f : List ℕ) → p < n → Kept n f (counted n p f)
 unfolding counted
 counted-kept n p f h = kept-set n f (6 * n + p) _ (omega arith) (omega arith)
@@ -263,23 +250,32 @@ module _ {n : ℕ} {held : List Link} {f : List ℕ} (G : Gathered n held f) (ro
           ]);
         }
 
--- The two smallest members found, p for a and q for b: what `join` asks and leaves.
-module _ {n : ℕ} {f : List ℕ} {a b : ℕ} (J : Joinable n f a b) (p q : ℕ) (P : LabelIs n f a p) (Q : LabelIs n f b q) where
+-- The two smallest members found, p for a and then q for b: what `join` asks and leaves.
+module _ {n : ℕ} {f f₁ f₂ : List ℕ} {a b : ℕ} (J : Joinable n f a b) (p q : ℕ) (P : Finds n a f p f₁) (Q : Finds n b f₁ q f₂) where
   open Joinable J using (gathered as G, room, one, two)
 
-  own-a : (p < n) × (getD (pieces n (J .held)) p 0 ≡ p)
-  own-a = rw (P (J .held) G) (label-in n (J .held) (G .inside) a one, label-own n (J .held) (G .inside) a one)
+  still : (held : List Link) → Gathered n held f → Gathered n held f₂
+  still held H = Q .stays held (P .stays held H)
 
-  own-b : (q < n) × (getD (pieces n (J .held)) q 0 ≡ q)
-  own-b = rw (Q (J .held) G) (label-in n (J .held) (G .inside) b two, label-own n (J .held) (G .inside) b two)
+  label-b : LabelIs n f b q
+  label-b held H = Q .label held (P .stays held H)
 
-  pub join-countable : Countable n p f
-  join-countable = countable G room a b one two p (own-a .0) (own-a .1)
+  found-kept : Kept n f f₂
+  found-kept = kept-trans (P .kept) (Q .kept)
 
-  pub join-inside : p ≡ q → (g : List ℕ) → g ≡ counted n p f → Joins n a b f g
+  own-a : getD (pieces n (J .held)) p 0 ≡ p
+  own-a = rw (P .label (J .held) G) (label-own n (J .held) (G .inside) a one)
+
+  own-b : getD (pieces n (J .held)) q 0 ≡ q
+  own-b = rw (label-b (J .held) G) (label-own n (J .held) (G .inside) b two)
+
+  pub join-countable : Countable n p f₂
+  join-countable = countable (still (J .held) G) room a b one two p (P .in-range) own-a
+
+  pub join-inside : p ≡ q → (g : List ℕ) → g ≡ counted n p f₂ → Joins n a b f g
   join-inside e g r = rw r (record {
-    more = λ held h H. gathered-inside H h a b one two p (sym (P held H)) (sym (Q held H) ∙ sym e);
-    kept = counted-kept n p f (own-a .0);
+    more = λ held h H. gathered-inside (still held H) h a b one two p (sym (P .label held H)) (sym (label-b held H) ∙ sym e);
+    kept = kept-trans found-kept (counted-kept n p f₂ (P .in-range));
   })
 
   module _ (lo hi : ℕ) (lt : lo < hi) (el : min p q ≡ lo) (eh : max p q ≡ hi) where
@@ -288,20 +284,20 @@ module _ {n : ℕ} {f : List ℕ} {a b : ℕ} (J : Joinable n f a b) (p q : ℕ)
       | yes h ↦
           let x : lo ≡ p = omega arith in
           let y : hi ≡ q = omega arith in
-          rw (x, y) (own-b .0, own-a .1, own-b .1)
+          rw (x, y) (Q .in-range, own-a, own-b)
       | no h ↦
           let x : lo ≡ q = omega arith in
           let y : hi ≡ p = omega arith in
-          rw (x, y) (own-a .0, own-b .1, own-a .1)
+          rw (x, y) (P .in-range, own-b, own-a)
     ]
 
-    pub join-unitable : Unitable n lo hi f
-    join-unitable = unitable G room a b one two lo hi lt (own-lo .0) (own-lo .1) (own-lo .2)
+    pub join-unitable : Unitable n lo hi f₂
+    join-unitable = unitable (still (J .held) G) room a b one two lo hi lt (own-lo .0) (own-lo .1) (own-lo .2)
 
-    pub join-between : (g : List ℕ) → g ≡ united n lo hi f → Joins n a b f g
+    pub join-between : (g : List ℕ) → g ≡ united n lo hi f₂ → Joins n a b f g
     join-between g r = rw r (record {
-      more = λ held h H. gathered-between H h a b one two lo hi lt (omega (arith, P held H, Q held H)) (omega (arith, P held H, Q held H));
-      kept = united-kept n lo hi f (omega (arith, own-lo .0)) (own-lo .0);
+      more = λ held h H. gathered-between (still held H) h a b one two lo hi lt (omega (arith, P .label held H, label-b held H)) (omega (arith, P .label held H, label-b held H));
+      kept = kept-trans found-kept (united-kept n lo hi f₂ (omega (arith, own-lo .0)) (own-lo .0));
     })
 
 -- The links in the held table, one more of them, and one of them.

@@ -1,4 +1,4 @@
--- The pieces placed one after another, by smallest member, and what is cleared when the pass ends.
+-- The pieces placed one after another, by smallest member.
 -- Assumes nothing.
 use Prim.Native.Nat.{ℕ, zero, suc, _+_, _*_, _≤_, _<_}
 use mathlib.Core.Path.{_≡_, refl, sym, ap, _∙_}
@@ -10,44 +10,57 @@ use lib.Dec.{T, eqb, T-not}
 use lib.ListN.{getD}
 use Rattle.base.specs.Pick.{pick-true, pick-false}
 use Rattle.base.specs.Truth.{and-l, and-r, true-T, T-true, T-false}
-use Rattle.rules.specs.Tables.{Tables, noteOf, placed, cleared}
+use Rattle.rules.specs.Tables.{Tables, noteOf, placed}
 use Rattle.rules.specs.Building.{pieces, member, lost, noted, topOf, placeWalk, placePiece, placeFrom, placePieces}
 use Rattle.rules.specs.Laws.Facts.{Loose}
-use Rattle.rules.specs.Laws.Pieces.{member-elim}
+use Rattle.rules.specs.Laws.Pieces.{Inside, label-le, member-elim}
+use Rattle.rules.specs.Laws.Noted.{top-none, top-noted}
 use Rattle.rules.specs.Laws.Tables.{same-noteOf, placed-loose, rank-placed}
 use Rattle.rules.specs.Laws.Partial.{Of, Closing}
 use Rattle.rules.specs.Laws.Close.{lost-same, not-placed, ready-at, closing}
 use Rattle.rules.specs.Laws.CloseAny.{shown, learnt-shown}
-use Rattle.state.specs.Layout.{words, tablesIn, forestIn, bare}
+use Rattle.state.specs.Layout.{tablesIn, forestIn, bare}
 use Rattle.state.specs.Laws.Layout.{level-word}
-use Rattle.building.specs.Closing.{labelsIn, topBy, dueAt, Beside, Hanging, PlacesPath, PlacesWhole, Due, PlacesPiece, Closable, PlacesAll}
+use Rattle.building.specs.Closing.{labelsIn, labelAt, Chained, topBy, dueAt, Beside, Hanging, Losing, PathLeaves, WholeLeaves, Due, PieceLeaves, Closable, AllLeaves}
 use Rattle.building.specs.Telling.{heldTables}
-use Rattle.building.specs.Laws.Choosing.{label-word, noted-same, top-by}
+use Rattle.building.specs.Walk.{Wide}
+use Rattle.building.specs.Laws.Members.{membered-by}
+use Rattle.building.specs.Laws.Choosing.{label-by, label-word, member-label, noted-same, top-by}
 use Rattle.building.specs.Laws.Walking.{bare-placed}
-use Rattle.building.specs.Laws.Saving.{wide-by, beside-join}
+use Rattle.building.specs.Laws.Frames.{frame-refl, frame-join, wide-by, beside-section, arranged-beside}
 
 -- The choices for a piece, by the forest alone, are those of the rules.
-module _ (n c p : ℕ) (f h : List ℕ) (D : Due n c p f h) (note top : ℕ) (en : note ≡ noted (forestIn n f) (labelsIn n f) p n) (et : top ≡ topBy n (forestIn n f) (labelsIn n f) p note) where
-  note-is : note ≡ noted (heldTables n c f h) (labelsIn n f) p n
+module _ (n c p : ℕ) (f h₀ h : List ℕ) (D : Due n c p f h₀ h) (note top : ℕ) (en : note ≡ noted (forestIn n f) (labelsIn n f) p n) (et : top ≡ topBy n (forestIn n f) (labelsIn n f) p note) where
+  note-is : note ≡ noted (heldTables n c f h₀) (labelsIn n f) p n
   unfolding tablesIn
-  note-is = en ∙ noted-same (forestIn n f) (heldTables n c f h) (labelsIn n f) p n refl refl
+  note-is = en ∙ noted-same (forestIn n f) (heldTables n c f h₀) (labelsIn n f) p n refl refl
 
-  top-is : top ≡ topOf n (heldTables n c f h) (labelsIn n f) p
+  top-is : top ≡ topOf n (heldTables n c f h₀) (labelsIn n f) p
   unfolding tablesIn
-  top-is = et ∙ top-by n (forestIn n f) (heldTables n c f h) (labelsIn n f) p note refl note-is
+  top-is = et ∙ top-by n (forestIn n f) (heldTables n c f h₀) (labelsIn n f) p note refl note-is
 
-  pub due-hanging : note ≤ n → Hanging n c top note f h
-  due-hanging l = record { wide = D .noting .wide; there = D .there; standing = D .standing; note-in = l; ready = rw (top-is, note-is) (D .ready) }
+  pub due-hanging : note ≤ n → Hanging n c top note f h₀ h
+  due-hanging l = record { arranged = D .arranged; standing = D .standing; note-in = l; ready = rw (top-is, note-is) (D .ready) }
 
-  lost-is : lost n (forestIn n f) (labelsIn n f) p ≡ lost n (heldTables n c f h) (labelsIn n f) p
+  -- The top is a member.
+  top-label : (x : ℕ) → note ≡ x → labelAt n f top ≡ p
+  top-label zero e = rw (top-is, top-none (heldTables n c f h₀) (labelsIn n f) p n (sym note-is ∙ e)) (D .noting .chained .own)
+  top-label (suc q) e =
+      let (l, m, _) = top-noted (heldTables n c f h₀) (labelsIn n f) p n q (sym note-is ∙ e) in
+      rw top-is (member-label n f p (topOf n (heldTables n c f h₀) (labelsIn n f) p) l m)
+
+  pub due-losing : note ≤ n → Losing n c p top note f h₀ h
+  due-losing l = record { hanging = due-hanging l; chained = D .noting .chained; labels = D .labels; top-of = top-label note refl }
+
+  lost-is : lost n (forestIn n f) (labelsIn n f) p ≡ lost n (heldTables n c f h₀) (labelsIn n f) p
   unfolding tablesIn
-  lost-is = lost-same n (forestIn n f) (heldTables n c f h) (labelsIn n f) p refl
+  lost-is = lost-same n (forestIn n f) (heldTables n c f h₀) (labelsIn n f) p refl
 
-  pub piece-path : (f′ : List ℕ) → true ≡ lost n (forestIn n f) (labelsIn n f) p → PlacesPath n c top note f h f′ → PlacesPiece n c p f h f′
+  pub piece-path : (f′ : List ℕ) → true ≡ lost n (forestIn n f) (labelsIn n f) p → PathLeaves n c top note f h₀ f′ → PieceLeaves n c p f h₀ f′
   unfolding placePiece placeWalk
   piece-path f′ e P = record { tables = P .tables ∙ rw (top-is, note-is, ← lost-is, ← e, pick-true); beside = P .beside }
 
-  pub piece-whole : (f′ : List ℕ) → false ≡ lost n (forestIn n f) (labelsIn n f) p → PlacesWhole n c top note f h f′ → PlacesPiece n c p f h f′
+  pub piece-whole : (f′ : List ℕ) → false ≡ lost n (forestIn n f) (labelsIn n f) p → WholeLeaves n c top note f h₀ f′ → PieceLeaves n c p f h₀ f′
   unfolding placePiece placeWalk
   piece-whole f′ e P = record { tables = P .tables ∙ rw (top-is, note-is, ← lost-is, ← e, pick-false); beside = P .beside }
 
@@ -66,39 +79,45 @@ module _ (n p : ℕ) (f : List ℕ) (l : p < n) where
       rw there
 
 -- The pieces with smallest member below p are placed.
-pub record Placing (n c : ℕ) (f₀ h : List ℕ) (p : ℕ) (f : List ℕ) : Type 0 where
-  pub tables : heldTables n c f h ≡ placePieces n (labelsIn n f₀) p (heldTables n c f₀ h)
+pub record Placing (n c : ℕ) (f₀ h₀ : List ℕ) (p : ℕ) (f : List ℕ) : Type 0 where
+  pub tables : heldTables n c f h₀ ≡ placePieces n (labelsIn n f₀) p (heldTables n c f₀ h₀)
   pub beside : Beside n f₀ f
 
-pub placing-none : (n c : ℕ) (f h : List ℕ) → Placing n c f h 0 f
+pub placing-none : (n c : ℕ) (f h₀ : List ℕ) → Placing n c f h₀ 0 f
 unfolding placePieces
-placing-none n c f h = record { tables = refl; beside = record { same-long = refl; labels = refl; past = refl } }
+placing-none n c f h₀ = record { tables = refl; beside = frame-refl n 2 12 f }
 
-pub placing-all : (n c : ℕ) (f₀ h f : List ℕ) → Placing n c f₀ h n f → PlacesAll n c f₀ h f
-placing-all n c f₀ h f P = record { tables = P .tables; beside = P .beside }
+pub placing-all : (n c : ℕ) (f₀ h₀ f : List ℕ) → Placing n c f₀ h₀ n f → AllLeaves n c f₀ h₀ f
+placing-all n c f₀ h₀ f P = record { tables = P .tables; beside = P .beside }
 
-module _ (n c : ℕ) (f₀ h : List ℕ) (p : ℕ) (f : List ℕ) (P : Placing n c f₀ h p f) where
-  due-is : dueAt n p f ≡ (not (placed (placePieces n (labelsIn n f₀) p (heldTables n c f₀ h)) p) && member (labelsIn n f₀) p p)
+module _ (n c : ℕ) (f₀ h₀ h : List ℕ) (p : ℕ) (f : List ℕ) (W : Closable n c f₀ h₀ h) (P : Placing n c f₀ h₀ p f) where
+  abbrev before : Tables
+  before = heldTables n c f₀ h₀
+
+  pub placing-wide : Wide n f
+  placing-wide = wide-by (P .beside .same-long) (W .wide)
+
+  labels-now : labelsIn n f ≡ labelsIn n f₀
+  labels-now = beside-section (P .beside) 7 (W .wide) (omega arith) (omega arith)
+
+  due-is : dueAt n p f ≡ (not (placed (placePieces n (labelsIn n f₀) p before) p) && member (labelsIn n f₀) p p)
   unfolding dueAt
-  due-is = rw (P .beside .labels, bare-placed n c f h p, P .tables)
+  due-is = rw (labels-now, bare-placed n c f h₀ p, P .tables)
 
-  pub placing-on : (f′ : List ℕ) → true ≡ dueAt n p f → PlacesPiece n c p f h f′ → Placing n c f₀ h (p + 1) f′
+  pub placing-on : (f′ : List ℕ) → true ≡ dueAt n p f → PieceLeaves n c p f h₀ f′ → Placing n c f₀ h₀ (p + 1) f′
   unfolding placePieces placeFrom
   placing-on f′ e Q = record {
-    tables = rw (add-one, ← due-is, ← e, pick-true) (Q .tables ∙ rw (P .beside .labels, P .tables));
-    beside = beside-join (P .beside) (Q .beside);
+    tables = rw (add-one, ← due-is, ← e, pick-true) (Q .tables ∙ rw (labels-now, P .tables));
+    beside = frame-join (P .beside) (Q .beside);
   }
 
-  pub placing-past : false ≡ dueAt n p f → Placing n c f₀ h (p + 1) f
+  pub placing-past : false ≡ dueAt n p f → Placing n c f₀ h₀ (p + 1) f
   unfolding placePieces placeFrom
   placing-past e = record { tables = rw (add-one, ← due-is, ← e, pick-false) (P .tables); beside = P .beside }
 
   -- A piece that is due can be placed.
-  module _ (W : Closable n c f₀ h) (l : p < n) (e : true ≡ dueAt n p f) where
-    abbrev before : Tables
-    before = heldTables n c f₀ h
-
-    now-is : heldTables n c f h ≡ placePieces n (pieces n (before .held)) p before
+  module _ (l : p < n) (e : true ≡ dueAt n p f) where
+    now-is : heldTables n c f h₀ ≡ placePieces n (pieces n (before .held)) p before
     now-is = P .tables ∙ ap (λ (g : List ℕ). placePieces n g p before) (W .labels)
 
     so-far : Closing n (shown before) before p (placePieces n (pieces n (before .held)) p before)
@@ -129,10 +148,31 @@ module _ (n c : ℕ) (f₀ h : List ℕ) (p : ℕ) (f : List ℕ) (P : Placing n
     unfolding tablesIn noteOf
     notes-now v g = omega (arith, ap (λ (t : Tables). noteOf t v) now-is, same-noteOf (placePieces n (pieces n (before .held)) p before) before (so-far .same-note) v, note-few v)
 
-    pub placing-due : Due n c p f h
+    inside : Inside n (before .held)
+    inside u v t = let (a, b, _, _, _) = W .underway .holding .ends u v t in (a, b)
+
+    -- The labels are those of the links told.
+    label-now : (v : ℕ) → v < n → labelAt n f v ≡ getD (pieces n (before .held)) v 0
+    label-now v g = label-by n f (labels-now ∙ W .labels) v g
+
+    chained-now : Chained n p f
+    chained-now = record {
+      wide = placing-wide;
+      membered = membered-by (λ i a b. P .beside .within i (omega arith) (omega arith)) (W .membered);
+      in-range = l;
+      own = label-now p l ∙ own .1;
+      least = λ v g q. omega (arith, label-now v (omega arith), label-le n (before .held) inside v (omega arith));
+    }
+
+    held-now : heldTables n c f h₀ .held ≡ before .held
+    unfolding tablesIn
+    held-now = refl
+
+    pub placing-due : Due n c p f h₀ h
     placing-due = record {
-      noting = record { wide = wide-by (P .beside .same-long) (W .wide); notes = notes-now };
-      there = W .there;
+      noting = record { chained = chained-now; notes = notes-now };
+      arranged = arranged-beside (omega arith) (P .beside) (W .arranged);
+      labels = labels-now ∙ W .labels ∙ ap (pieces n) (sym held-now);
       standing = rw now-is (so-far .standing);
-      ready = rw (P .beside .labels, W .labels, now-is) (ready-at (W .underway .standing) (learnt-shown (W .underway)) so-far own loose-before);
+      ready = rw (labels-now, W .labels, now-is) (ready-at (W .underway .standing) (learnt-shown (W .underway)) so-far own loose-before);
     }

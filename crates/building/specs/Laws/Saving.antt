@@ -1,292 +1,307 @@
--- The forest saved and brought back, and the path to the deepest member kept meanwhile.
+-- A piece placed: all of its walk, or the path alone where its members' forest is saved and brought back.
 -- Assumes nothing.
-use Prim.Native.Nat.{ℕ, suc, _+_, _-_, _*_, _≤_, _<_}
-use mathlib.Core.Path.{_≡_, refl, sym, ap, _∙_}
-use mathlib.Core.List.{List, []}
-use mathlib.Core.Logic.{inl, inr}
+use Prim.Native.Nat.{ℕ, zero, suc, _+_, _-_, _*_, _≤_, _<_}
+use mathlib.Core.Path.{_≡_, refl, sym, ap, _∙_, subst}
+use mathlib.Core.List.{List}
+use mathlib.Core.Logic.{inr, _≢_}
 use native.Mathlib.Omega.{arith}
 use native.Mathlib.Decide.{ℕ-discrete}
-use native.Mathlib.Nat.{mul-le-mul-right, zero-add}
-use lib.Dec.{T}
-use lib.ListN.{length, getD, set, drop, length-set, length-drop}
-use lib.Seq.{ext-getD, getD-drop, getD-set-same, getD-set-other, drop-set-lt, drop-drop}
-use Rattle.rules.specs.Links.{here}
-use Rattle.rules.specs.Tables.{Tables, parentOf, rank, placed, place}
+use native.Mathlib.Nat.{mul-le-mul-right}
+use lib.Dec.{eqb}
+use lib.ListN.{length, getD, drop}
+use lib.Seq.{ext-getD}
+use Rattle.base.specs.Pick.{pick-all}
+use Rattle.rules.specs.Links.{Link, linked, JoinedBy, here}
+use Rattle.rules.specs.Tables.{Tables, parentOf, rank, place}
 use Rattle.rules.specs.Building.{Walk, hang, walked, placePath}
-use Rattle.rules.specs.Laws.Facts.{Standing}
-use Rattle.rules.specs.Laws.Kept.{parent-placed}
+use Rattle.rules.specs.Laws.Facts.{Walked}
+use Rattle.rules.specs.Laws.Pieces.{joined-label}
 use Rattle.rules.specs.Laws.Walk.{walk}
-use Rattle.rules.specs.Laws.Tables.{rank-most}
-use Rattle.state.specs.Layout.{words, section, tablesIn, forestIn}
-use Rattle.state.specs.Laws.Layout.{section-length, section-at, section-set, section-before, section-after, parent-word, level-word}
-use Rattle.building.specs.Closing.{Wide, savedAt, keptAt, hungAt, Copyable, Copies, Beside, Climbable, Climbs, Hangable, Walkable, Walks, walkOf, PlacesPath, PlacesWhole, Hanging}
+use Rattle.rules.specs.Laws.Tables.{rank-most, parentOf-place-same, parentOf-place-other, rank-place-same, rank-place-other, place-length, place-held}
+use Rattle.state.specs.Layout.{section, tablesIn}
+use Rattle.state.specs.Laws.Layout.{section-length, section-at, tables-are, parent-word, level-word}
+use Rattle.building.specs.Arranged.{Frame}
+use Rattle.building.specs.Closing.{labelAt, Chained, Copies, savedAt, Beside, Climbable, Climbs, Hanging, Losing, walkOf, PathLeaves, WholeLeaves}
+use Rattle.building.specs.Walk.{Wide, hungAt, Hangable, Walkable, WalkLeaves}
 use Rattle.building.specs.Telling.{heldTables, holds}
-use Rattle.building.specs.Laws.Walking.{bare-standing, bare-parent, bare-rank, bare-placed, hung-tables, hung-kept, hung-long}
+use Rattle.building.specs.Laws.Choosing.{label-by}
+use Rattle.building.specs.Laws.Walking.{bare-standing, bare-rank, bare-placed, hung-tables, hung-kept, hung-long}
+use Rattle.building.specs.Laws.Frames.{section-by, frame-join, low-frame, narrow, wide-by, beside-section, chained-by, arranged-beside}
 
--- One word more is copied.
-pub copies-none : (from to : ℕ) (l : List ℕ) → Copies from to 0 l l
-copies-none from to l = record { same-long = refl; there = λ i h. absurd (omega arith); before = λ i h. refl; behind = λ i h. refl }
+-- The path placed in two tables, one fragment at a time.
+abbrev Alike : Tables → Tables → ℕ → Type 0
+Alike s t u = (parentOf s u ≡ parentOf t u) × (rank s u ≡ rank t u)
 
-pub copies-more : (from to m i : ℕ) (l l′ : List ℕ) → Copyable from to m l → i < m → Copies from to i l l′ → Copies from to (i + 1) l (set l′ (to + i) (getD l′ (from + i) 0))
-copies-more from to m i l l′ W h C = record {
-  same-long = simp length-set (C .same-long);
-  there = λ j g. elim (ℕ-discrete j i) [
-    | yes e ↦ rw e (getD-set-same l′ (to + i) (getD l′ (from + i) 0) 0 (omega (arith, C .same-long, W .to-in)) ∙ source)
-    | no d ↦ getD-set-other l′ (to + i) (to + j) (getD l′ (from + i) 0) 0 (λ e. d (omega arith)) ∙ C .there j (omega arith)
-  ];
-  before = λ j g. getD-set-other l′ (to + i) j (getD l′ (from + i) 0) 0 (λ e. omega arith) ∙ C .before j g;
-  behind = λ j g. getD-set-other l′ (to + i) j (getD l′ (from + i) 0) 0 (λ e. omega arith) ∙ C .behind j (omega arith);
-}
-  where
-    source : getD l′ (from + i) 0 ≡ getD l (from + i) 0
-    source = elim (W .apart) [
-      | inl a ↦ C .before (from + i) (omega arith)
-      | inr b ↦ C .behind (from + i) (omega arith)
-    ]
+abbrev Long : ℕ → Tables → Type 0
+Long n t = (length (t .parent) ≡ n) × (length (t .level) ≡ n)
 
--- Parts of tables that are equal word by word.
-pub section-by : (n j i : ℕ) (f g : List ℕ) → suc j * n ≤ length f → suc i * n ≤ length g → ((v : ℕ) → v < n → getD f (j * n + v) 0 ≡ getD g (i * n + v) 0) → section n j f ≡ section n i g
-section-by n j i f g a b e =
-    let l = section-length n f j a in
-    ext-getD 0 (section n j f) (section n i g) (l ∙ sym (section-length n g i b)) (λ v h.
-    let k : v < n = omega arith in
-    sym (section-at n f j (j * n + v) v refl k) ∙ e v k ∙ section-at n g i (i * n + v) v refl k)
+place-long : {n : ℕ} (v p r : ℕ) (t : Tables) → Long n t → Long n (place v p r t)
+place-long v p r t l = let e = place-length v p r t in (e .0 ∙ l .0, e .1 ∙ l .1)
 
-pub drop-by : (m : ℕ) (f g : List ℕ) → length f ≡ length g → ((i : ℕ) → m ≤ i → getD f i 0 ≡ getD g i 0) → drop m f ≡ drop m g
-drop-by m f g l e =
-    ext-getD 0 (drop m f) (drop m g) (length-drop m f ∙ ap (λ (k : ℕ). k - m) l ∙ sym (length-drop m g)) (λ i h.
-    getD-drop m f i 0 ∙ e (m + i) (omega arith) ∙ sym (getD-drop m g i 0))
+place-other : (v p r : ℕ) (t : Tables) (u : ℕ) → u ≢ v → Alike (place v p r t) t u
+place-other v p r t u d = (parentOf-place-other v p r t u d, rank-place-other v p r t u d)
 
--- Where only the first two sections changed, the others did not.
-section-kept : (n j : ℕ) (f f′ : List ℕ) → drop (2 * n) f′ ≡ drop (2 * n) f → section n (2 + j) f′ ≡ section n (2 + j) f
-unfolding section
-section-kept n j f f′ e =
-    let a : (2 + j) * n ≡ 2 * n + j * n = omega arith in
-    rw (a, ← drop-drop (j * n) (2 * n) f′, ← drop-drop (j * n) (2 * n) f, e)
+place-alike : {n : ℕ} (v p r : ℕ) (s t : Tables) (u : ℕ) → u < n → Long n s → Long n t → Alike s t u → Alike (place v p r s) (place v p r t) u
+place-alike v p r s t u h l m a = elim (ℕ-discrete u v) [
+  | yes e ↦ rw e (
+    parentOf-place-same v p r s (omega (arith, l .0)) ∙ sym (parentOf-place-same v p r t (omega (arith, m .0))),
+    rank-place-same v p r s (omega (arith, l .1)) ∙ sym (rank-place-same v p r t (omega (arith, m .1))),
+  )
+  | no d ↦
+      let (x, y) = place-other v p r s u d in
+      let (i, j) = place-other v p r t u d in
+      (x ∙ a .0 ∙ sym i, y ∙ a .1 ∙ sym j)
+]
 
-beside-low : (n : ℕ) (f f′ : List ℕ) → length f′ ≡ length f → drop (2 * n) f′ ≡ drop (2 * n) f → Beside n f f′
-beside-low n f f′ l e = record { same-long = l; labels = section-kept n 5 f f′ e; past = past }
-  where
-    past : drop (words * n) f′ ≡ drop (words * n) f
-    past = let a : words * n ≡ 2 * n + 14 * n = omega arith in rw (a, ← drop-drop (14 * n) (2 * n) f′, ← drop-drop (14 * n) (2 * n) f, e)
+-- Where two tables agree on a fragment, so they do after the path is placed in both.
+path-alike : {n : ℕ} (w : Tables) (k v : ℕ) (s t : Tables) (u : ℕ) → u < n → Long n s → Long n t → Alike s t u → Alike (placePath w k v s) (placePath w k v t) u
+unfolding placePath
+path-alike w zero v s t u h l m a = place-alike v (parentOf w v) (rank w v) s t u h l m a
+path-alike w (suc k) v s t u h l m a =
+    let p = parentOf w v in
+    let r = rank w v in
+    path-alike w k p (place v p r s) (place v p r t) u h (place-long v p r s l) (place-long v p r t m) (place-alike v p r s t u h l m a)
 
-saved-low : (n c : ℕ) (f f′ h : List ℕ) → drop (2 * n) f′ ≡ drop (2 * n) f → savedAt n c f′ h ≡ savedAt n c f h
-unfolding savedAt
-saved-low n c f f′ h e = rw (section-kept n 6 f f′ e, section-kept n 7 f f′ e, section-kept n 0 f f′ e, section-kept n 1 f f′ e)
+path-long : {n : ℕ} (w : Tables) (k v : ℕ) (t : Tables) → Long n t → Long n (placePath w k v t)
+unfolding placePath
+path-long w zero v t l = place-long v (parentOf w v) (rank w v) t l
+path-long w (suc k) v t l = path-long w k (parentOf w v) (place v (parentOf w v) (rank w v) t) (place-long v (parentOf w v) (rank w v) t l)
 
-pub beside-join : {n : ℕ} {f g k : List ℕ} → Beside n f g → Beside n g k → Beside n f k
-beside-join A B = record { same-long = B .same-long ∙ A .same-long; labels = B .labels ∙ A .labels; past = B .past ∙ A .past }
+-- Nothing but the forest changes.
+path-rest : (w : Tables) (k v : ℕ) (t : Tables) → (placePath w k v t .note ≡ t .note) × (placePath w k v t .mark ≡ t .mark) × (placePath w k v t .held ≡ t .held) × (placePath w k v t .crossed ≡ t .crossed)
+unfolding placePath place
+path-rest w zero v t = (refl, refl, refl, refl)
+path-rest w (suc k) v t = path-rest w k (parentOf w v) (place v (parentOf w v) (rank w v) t)
 
-pub wide-by : {n : ℕ} {f f′ : List ℕ} → length f′ ≡ length f → Wide n f → Wide n f′
-wide-by e W = record { few = W .few; long = omega (arith, W .long) }
+-- Up to the top only members are on the path, so nothing else changes.
+path-outside : {n top d : ℕ} {t w : Tables} → Walked n top t w d → (k v : ℕ) → JoinedBy (linked (t .held)) top v → rank w v ≡ rank w top + k
+    → (s : Tables) (u : ℕ) → (JoinedBy (linked (t .held)) top u → ⊥) → Alike (placePath w k v s) s u
+unfolding placePath
+path-outside {w = w} W zero v m e s u f = place-other v (parentOf w v) (rank w v) s u (λ q. f (rw q m))
+path-outside {w = w} W (suc k) v m e s u f =
+    let p = parentOf w v in
+    let r = rank w v in
+    let (i, _, g) = W .below v m (λ q. omega (arith, ap (rank w) q)) in
+    let (a, b) = path-outside W k p i (omega arith) (place v p r s) u f in
+    let (x, y) = place-other v p r s u (λ q. f (rw q m)) in
+    (a ∙ x, b ∙ y)
 
--- The forest is saved.
-module _ (n c : ℕ) (f f′ h : List ℕ) (W : Wide n f) (C : Copies 0 (8 * n) (2 * n) f f′) where
-  same-below : (j : ℕ) → suc j ≤ 8 → section n j f′ ≡ section n j f
-  same-below j l =
-      let g = mul-le-mul-right {m = suc j} {n = 8} n l in
-      section-by n j j f′ f (omega (arith, W .long, C .same-long)) (omega (arith, W .long)) (λ v h. C .before (j * n + v) (omega arith))
+-- Hanging changes nothing but the top.
+module _ (top note : ℕ) (s : Tables) where
+  hang-other : (u : ℕ) → u ≢ top → Alike (hang top note s) s u
+  unfolding hang
+  hang-other u d = pick-all (λ (t : Tables). Alike t s u) (eqb note 0) _ _ (place-other top top 1 s u d) (place-other top _ _ s u d)
 
-  saved-words : (j : ℕ) → j ≤ 1 → section n (8 + j) f′ ≡ section n j f
-  saved-words j l =
-      let g = mul-le-mul-right {m = j} {n = 1} n l in
-      let k : suc (8 + j) * n ≡ 9 * n + j * n = omega arith in
-      section-by n (8 + j) j f′ f (omega (arith, W .long, C .same-long)) (omega (arith, W .long)) (λ v h.
-      let e : (8 + j) * n + v ≡ 8 * n + (j * n + v) = omega arith in
-      ap (λ (i : ℕ). getD f′ i 0) e ∙ C .there (j * n + v) (omega arith) ∙ ap (λ (i : ℕ). getD f i 0) (zero-add (j * n + v)))
+  hang-held : hang top note s .held ≡ s .held
+  unfolding hang
+  hang-held = pick-all (λ (t : Tables). t .held ≡ s .held) (eqb note 0) _ _ (place-held top top 1 s) (place-held top _ _ s)
 
-  pub saved-tables : heldTables n c f′ h ≡ heldTables n c f h
-  unfolding tablesIn
-  saved-tables = rw (same-below 0 (omega arith), same-below 1 (omega arith), same-below 2 (omega arith), same-below 3 (omega arith))
+-- A piece is placed: its top is hung and it is walked, in a table f₁ that holds what f does.
+module _ (n c top note : ℕ) (f h₀ h : List ℕ) (W : Hanging n c top note f h₀ h) (f₁ : List ℕ) (same : heldTables n c f₁ h₀ ≡ heldTables n c f h₀) (apart : Beside n f f₁) where
+  wide-now : {g : List ℕ} → length g ≡ length f → Wide n g
+  wide-now e = record { few = W .arranged .few; long = omega (arith, W .arranged .long) }
 
-  saved-forest : savedAt n c f′ h ≡ heldTables n c f h
-  unfolding tablesIn savedAt
-  saved-forest = rw (saved-words 0 (omega arith), saved-words 1 (omega arith), same-below 2 (omega arith), same-below 3 (omega arith))
-
-  saved-beside : Beside n f f′
-  saved-beside = record { same-long = C .same-long; labels = same-below 7 (omega arith); past = drop-by (words * n) f′ f (C .same-long) (λ i l. C .behind i (omega arith)) }
-
--- The forest is brought back.
-module _ (n c : ℕ) (f f′ h : List ℕ) (W : Wide n f) (C : Copies (8 * n) 0 (2 * n) f f′) where
-  same-behind : (j : ℕ) → 2 ≤ j → suc j ≤ 16 → section n j f′ ≡ section n j f
-  same-behind j l g =
-      let a = mul-le-mul-right {m = suc j} {n = 16} n g in
-      let b = mul-le-mul-right {m = 2} {n = j} n l in
-      section-by n j j f′ f (omega (arith, W .long, C .same-long)) (omega (arith, W .long)) (λ v h. C .behind (j * n + v) (omega arith))
-
-  back-words : (j : ℕ) → j ≤ 1 → section n j f′ ≡ section n (8 + j) f
-  back-words j l =
-      let g = mul-le-mul-right {m = j} {n = 1} n l in
-      let k : suc (8 + j) * n ≡ 9 * n + j * n = omega arith in
-      section-by n j (8 + j) f′ f (omega (arith, W .long, C .same-long)) (omega (arith, W .long)) (λ v h.
-      let e : (8 + j) * n + v ≡ 8 * n + (j * n + v) = omega arith in
-      ap (λ (i : ℕ). getD f′ i 0) (sym (zero-add (j * n + v))) ∙ C .there (j * n + v) (omega arith) ∙ ap (λ (i : ℕ). getD f i 0) (sym e))
-
-  back-tables : heldTables n c f′ h ≡ savedAt n c f h
-  unfolding tablesIn savedAt
-  back-tables = rw (back-words 0 (omega arith), back-words 1 (omega arith), same-behind 2 (omega arith) (omega arith), same-behind 3 (omega arith) (omega arith))
-
-  back-beside : Beside n f f′
-  back-beside = record { same-long = C .same-long; labels = same-behind 7 (omega arith) (omega arith); past = drop-by (words * n) f′ f (C .same-long) (λ i l. C .behind i (omega arith)) }
-
--- A fragment is kept.
-module _ (n : ℕ) (f : List ℕ) (v : ℕ) (l : v < n) where
-  kept-parent : section n 8 (keptAt n v f) ≡ set (section n 8 f) v (getD f v 0)
-  unfolding keptAt
-  kept-parent = section-before n _ 8 (9 * n + v) _ (omega arith) ∙ section-set n f 8 (8 * n + v) v _ refl l
-
-  kept-level : section n 9 (keptAt n v f) ≡ set (section n 9 f) v (getD f (n + v) 0)
-  unfolding keptAt
-  kept-level = section-set n _ 9 (9 * n + v) v _ refl l ∙ ap (λ (r : List ℕ). set r v (getD f (n + v) 0)) (section-after n f 9 (8 * n + v) _ (omega arith))
-
-  kept-below : (j : ℕ) → suc j ≤ 8 → section n j (keptAt n v f) ≡ section n j f
-  unfolding keptAt
-  kept-below j g =
-      let k = mul-le-mul-right {m = suc j} {n = 8} n g in
-      section-before n _ j (9 * n + v) _ (omega arith) ∙ section-before n f j (8 * n + v) _ (omega arith)
-
-  kept-tables : (c : ℕ) (h : List ℕ) → heldTables n c (keptAt n v f) h ≡ heldTables n c f h
-  unfolding tablesIn
-  kept-tables c h = rw (kept-below 0 (omega arith), kept-below 1 (omega arith), kept-below 2 (omega arith), kept-below 3 (omega arith))
-
-  kept-saved : (c : ℕ) (h : List ℕ) → savedAt n c (keptAt n v f) h ≡ place v (parentOf (heldTables n c f h) v) (rank (heldTables n c f h) v) (savedAt n c f h)
-  unfolding savedAt place
-  kept-saved c h = rw (kept-parent, kept-level, kept-below 2 (omega arith), kept-below 3 (omega arith), ← parent-word (holds n c) f h v l, ← level-word (holds n c) f h v l)
-
-  kept-beside : Beside n f (keptAt n v f)
-  unfolding keptAt
-  kept-beside = record {
-    same-long = simp length-set;
-    labels = kept-below 7 (omega arith);
-    past = drop-set-lt (words * n) _ (9 * n + v) _ (omega arith) ∙ drop-set-lt (words * n) f (8 * n + v) _ (omega arith);
-  }
-
--- The path is kept from v up; what is left of it keeps the rest.
-pub record Climbing (n top deepest : ℕ) (f₀ f : List ℕ) (v left : ℕ) : Type 0 where
-  pub tables : (c : ℕ) (h : List ℕ) → heldTables n c f h ≡ heldTables n c f₀ h
-  pub saved : (c : ℕ) (h : List ℕ) → placePath (heldTables n c f₀ h) left v (savedAt n c f h)
-      ≡ placePath (heldTables n c f₀ h) (rank (heldTables n c f₀ h) deepest - rank (heldTables n c f₀ h) top) deepest (savedAt n c f₀ h)
-  pub beside : Beside n f₀ f
-  pub in-range : v < n
-  pub on-way : T (placed (forestIn n f₀) v)
-
-pub climbing-starts : (n top deepest : ℕ) (f : List ℕ) → Climbable n top deepest f → Climbing n top deepest f f deepest (getD f (n + deepest) 0 - getD f (n + top) 0)
-climbing-starts n top deepest f W = record {
-  tables = λ c h. refl;
-  saved = λ c h. rw (level-word (holds n c) f h deepest (W .deep-in), level-word (holds n c) f h top (W .top-in));
-  beside = record { same-long = refl; labels = refl; past = refl };
-  in-range = W .deep-in;
-  on-way = W .deep-placed;
-}
-
-module _ (n top deepest : ℕ) (f₀ f : List ℕ) (v left : ℕ) (G : Climbing n top deepest f₀ f v left) where
-  same-after : (c : ℕ) (h : List ℕ) → heldTables n c (keptAt n v f) h ≡ heldTables n c f₀ h
-  same-after c h = kept-tables n f v (G .in-range) c h ∙ G .tables c h
-
-  saved-after : (c : ℕ) (h : List ℕ) → savedAt n c (keptAt n v f) h ≡ place v (parentOf (heldTables n c f₀ h) v) (rank (heldTables n c f₀ h) v) (savedAt n c f h)
-  saved-after c h = kept-saved n f v (G .in-range) c h ∙ ap (λ (t : Tables). place v (parentOf t v) (rank t v) (savedAt n c f h)) (G .tables c h)
-
-  -- The word read after the store.
-  parent-after : (c : ℕ) (h : List ℕ) → getD (keptAt n v f) v 0 ≡ parentOf (heldTables n c f₀ h) v
-  parent-after c h = parent-word (holds n c) (keptAt n v f) h v (G .in-range) ∙ ap (λ (t : Tables). parentOf t v) (same-after c h)
-
-  pub climbing-up : Standing n (forestIn n f₀) → 0 < left → Climbing n top deepest f₀ (keptAt n v f) (getD (keptAt n v f) v 0) (left - 1)
-  unfolding placePath
-  climbing-up S g =
-      let (i, p) = parent-placed S v (G .in-range) (G .on-way) in
-      let one-more : left ≡ suc (left - 1) = omega arith in
-      let e : getD (keptAt n v f) v 0 ≡ parentOf (forestIn n f₀) v = parent-after 0 [] ∙ sym (bare-parent n 0 f₀ [] v) in
-      record {
-        tables = same-after;
-        saved = λ c h. rw (parent-after c h, saved-after c h) (ap (λ (k : ℕ). placePath (heldTables n c f₀ h) k v (savedAt n c f h)) (sym one-more) ∙ G .saved c h);
-        beside = beside-join (G .beside) (kept-beside n f v (G .in-range));
-        in-range = rw e i;
-        on-way = rw e p;
-      }
-
-  pub climbing-ends : left ≡ 0 → Climbs n top deepest f₀ (keptAt n v f)
-  unfolding placePath
-  climbing-ends e = record {
-    tables = same-after;
-    saved = λ c h. saved-after c h ∙ ap (λ (k : ℕ). placePath (heldTables n c f₀ h) k v (savedAt n c f h)) (sym e) ∙ G .saved c h;
-    beside = beside-join (G .beside) (kept-beside n f v (G .in-range));
-  }
-
--- A piece is placed: its top is hung and it is walked, in tables f₁ that hold what f does; then all of it stays, or only the path to the deepest.
-module _ (n c top note : ℕ) (f h : List ℕ) (W : Hanging n c top note f h) (f₁ : List ℕ) (same : heldTables n c f₁ h ≡ heldTables n c f h) (long : length f₁ ≡ length f) where
   pub hangable-now : Hangable n top note f₁
   hangable-now = record {
-    wide = wide-by long (W .wide);
+    wide = wide-now (apart .same-long);
     top-in = W .ready .top-in;
     note-in = W .note-in;
-    levels = λ v l. rw (bare-rank n c f₁ h v, same) (rank-most (W .standing) v l);
+    levels = λ v l. rw (bare-rank n c f₁ h₀ v, same) (rank-most (W .standing) v l);
   }
 
   module _ (f₂ : List ℕ) (e₂ : f₂ ≡ hungAt n top note f₁) where
-    hung-now : heldTables n c f₂ h ≡ hang top note (heldTables n c f h)
-    hung-now = ap (λ (g : List ℕ). heldTables n c g h) e₂ ∙ hung-tables n c f₁ h top note (W .ready .top-in) (W .note-in) ∙ ap (hang top note) same
+    hung-now : heldTables n c f₂ h₀ ≡ hang top note (heldTables n c f h₀)
+    hung-now = ap (λ (g : List ℕ). heldTables n c g h₀) e₂ ∙ hung-tables n c f₁ h₀ top note (W .ready .top-in) (W .note-in) ∙ ap (hang top note) same
 
-    hung-as-long : length f₂ ≡ length f₁
-    hung-as-long = ap length e₂ ∙ hung-long n f₁ top note
+    hung-frame : Frame n 2 14 f₁ f₂
+    hung-frame = low-frame n f₁ f₂ (ap length e₂ ∙ hung-long n f₁ top note) (ap (drop (2 * n)) e₂ ∙ hung-kept n f₁ top note (W .ready .top-in))
 
-    pub hung-walkable : Walkable n c top f₂ h
+    pub hung-walkable : Walkable n c top f₂ h₀ h
     hung-walkable = record {
-      linking = record { wide = wide-by (hung-as-long ∙ long) (W .wide); there = W .there };
+      arranged = arranged-beside (omega (arith, W .ready .top-in)) (frame-join apart (narrow hung-frame)) (W .arranged);
       standing = rw hung-now (W .ready .standing);
       top-in = W .ready .top-in;
       top-placed = rw hung-now (W .ready .top-placed);
     }
 
-    module _ (deepest : ℕ) (f₃ : List ℕ) (G : Walks n c top deepest f₂ h f₃) where
-      walk-now : walked n top (heldTables n c f₂ h) ≡ walkOf n top note (heldTables n c f h)
+    module _ (deepest : ℕ) (f₃ : List ℕ) (G : WalkLeaves n c top deepest f₂ h₀ f₃) where
+      walk-now : walked n top (heldTables n c f₂ h₀) ≡ walkOf n top note (heldTables n c f h₀)
       walk-now = ap (walked n top) hung-now
 
-      tables-now : heldTables n c f₃ h ≡ walkOf n top note (heldTables n c f h) .tables
+      tables-now : heldTables n c f₃ h₀ ≡ walkOf n top note (heldTables n c f h₀) .tables
       tables-now = G .tables ∙ ap (λ (w : Walk). w .tables) walk-now
 
-      deep-now : deepest ≡ walkOf n top note (heldTables n c f h) .deepest
+      deep-now : deepest ≡ walkOf n top note (heldTables n c f h₀) .deepest
       deep-now = G .deep ∙ ap (λ (w : Walk). w .deepest) walk-now
 
-      low-now : drop (2 * n) f₃ ≡ drop (2 * n) f₁
-      low-now = G .kept ∙ ap (drop (2 * n)) e₂ ∙ hung-kept n f₁ top note (W .ready .top-in)
+      walked-now : Walked n top (hang top note (heldTables n c f h₀)) (heldTables n c f₃ h₀) deepest
+      walked-now = rw (tables-now, deep-now) (walk n top (hang top note (heldTables n c f h₀)) (W .ready))
 
-      long-now : length f₃ ≡ length f₁
-      long-now = G .same-long ∙ hung-as-long
+      frame-now : Frame n 2 14 f₁ f₃
+      frame-now = frame-join hung-frame (G .frame)
 
-      low-beside : Beside n f₁ f₃
-      low-beside = beside-low n f₁ f₃ long-now low-now
+      beside-now : Beside n f f₃
+      beside-now = frame-join apart (narrow frame-now)
 
-      pub places-whole : f₁ ≡ f → PlacesWhole n c top note f h f₃
-      places-whole e = record { tables = tables-now; beside = rw e at low-beside }
+      pub whole-leaves : WholeLeaves n c top note f h₀ f₃
+      whole-leaves = record { tables = tables-now; beside = beside-now }
 
-      deep-most : rank (heldTables n c f₃ h) top ≤ rank (heldTables n c f₃ h) deepest
-      deep-most = rw (tables-now, deep-now) (walk n top (hang top note (heldTables n c f h)) (W .ready) .deepest-most top here)
-
-      pub walk-climbable : Climbable n top deepest f₃
+      walk-climbable : Climbable n top deepest f₃
       walk-climbable = record {
-        wide = wide-by (long-now ∙ long) (W .wide);
-        standing = bare-standing n c f₃ h (G .standing);
+        wide = wide-now (beside-now .same-long);
+        standing = bare-standing n c f₃ h₀ (G .standing);
         top-in = W .ready .top-in;
         deep-in = G .deep-in;
-        deep-placed = rw (bare-placed n c f₃ h deepest) (G .deep-placed);
-        below = rw (bare-rank n c f₃ h top, bare-rank n c f₃ h deepest) deep-most;
+        deep-placed = rw (bare-placed n c f₃ h₀ deepest) (G .deep-placed);
+        below = rw (bare-rank n c f₃ h₀ top, bare-rank n c f₃ h₀ deepest) (walked-now .deepest-most top here);
       }
 
+-- The members' forest is saved.
+saved-beside : {n p : ℕ} {f f₁ : List ℕ} → Copies n p 0 (12 * n) n f f₁ → Beside n f f₁
+saved-beside C = record { same-long = C .same-long; within = λ i a b. C .before i b; past = λ i a. C .behind i (omega arith) }
+
+module _ (n c p : ℕ) (f f₁ h : List ℕ) (W : Wide n f) (C : Copies n p 0 (12 * n) n f f₁) where
+  same-below : (j : ℕ) → suc j ≤ 12 → section n j f₁ ≡ section n j f
+  same-below j l =
+      let g = mul-le-mul-right {m = suc j} {n = 12} n l in
+      section-by n j j f₁ f (omega (arith, W .long, C .same-long)) (omega (arith, W .long)) (λ v h. C .before (j * n + v) (omega arith))
+
+  saved-tables : heldTables n c f₁ h ≡ heldTables n c f h
+  unfolding tablesIn
+  saved-tables = rw (same-below 0 (omega arith), same-below 1 (omega arith), same-below 2 (omega arith), same-below 3 (omega arith))
+
+-- What is saved of a fragment, by its words.
+saved-words : (n c : ℕ) (f h : List ℕ) (v : ℕ) → v < n → (getD f (12 * n + v) 0 ≡ parentOf (savedAt n c f h) v) × (getD f (12 * n + n + v) 0 ≡ rank (savedAt n c f h) v)
+unfolding savedAt parentOf rank
+saved-words n c f h v l = (section-at n f 12 (12 * n + v) v refl l, section-at n f 13 (12 * n + n + v) v (omega arith) l)
+
+saved-long : (n c : ℕ) (f h : List ℕ) → Wide n f → Long n (savedAt n c f h)
+unfolding savedAt
+saved-long n c f h W = (section-length n f 12 (omega (arith, W .long)), section-length n f 13 (omega (arith, W .long)))
+
+-- What the two words of a fragment say.
+low-words : (n c : ℕ) (f h : List ℕ) (v : ℕ) → v < n → (getD f (0 + v) 0 ≡ parentOf (heldTables n c f h) v) × (getD f (0 + n + v) 0 ≡ rank (heldTables n c f h) v)
+low-words n c f h v l =
+    let a : 0 + v ≡ v = omega arith in
+    let b : 0 + n + v ≡ n + v = omega arith in
+    (ap (λ (i : ℕ). getD f i 0) a ∙ parent-word (holds n c) f h v l, ap (λ (i : ℕ). getD f i 0) b ∙ level-word (holds n c) f h v l)
+
+-- Of a lost piece the path is kept where its forest is saved, and brought back with it.
+module _ (n c p top note : ℕ) (f h₀ h : List ℕ) (W : Losing n c p top note f h₀ h) (f₁ : List ℕ) (C₁ : Copies n p 0 (12 * n) n f f₁) where
+  abbrev before : Tables
+  before = heldTables n c f h₀
+
+  wide : Wide n f
+  wide = W .chained .wide
+
+  same₁ : heldTables n c f₁ h₀ ≡ before
+  same₁ = saved-tables n c p f f₁ h₀ wide C₁
+
+  apart₁ : Beside n f f₁
+  apart₁ = saved-beside C₁
+
+  pub lost-hangable : Hangable n top note f₁
+  lost-hangable = hangable-now n c top note f h₀ h (W .hanging) f₁ same₁ apart₁
+
+  -- What is joined with the top is a member.
+  joined-member : (v : ℕ) → v < n → JoinedBy (linked (hang top note before .held)) top v → labelAt n f v ≡ p
+  unfolding tablesIn
+  joined-member v l m =
+      let j = joined-label n (before .held) (λ u x t. let (a, b, _) = W .hanging .arranged .among u x t in (a, b)) top v
+      (subst (λ (g : List Link). JoinedBy (linked g) top v) (hang-held top note before) m) in
+      label-by n f (W .labels) v l ∙ sym j ∙ sym (label-by n f (W .labels) top (W .hanging .ready .top-in)) ∙ W .top-of
+
+  module _ (f₂ : List ℕ) (e₂ : f₂ ≡ hungAt n top note f₁) where
+    pub lost-walkable : Walkable n c top f₂ h₀ h
+    lost-walkable = hung-walkable n c top note f h₀ h (W .hanging) f₁ same₁ apart₁ f₂ e₂
+
+    module _ (deepest : ℕ) (f₃ : List ℕ) (G : WalkLeaves n c top deepest f₂ h₀ f₃) where
+      pub lost-climbable : Climbable n top deepest f₃
+      lost-climbable = walk-climbable n c top note f h₀ h (W .hanging) f₁ same₁ apart₁ f₂ e₂ deepest f₃ G
+
+      abbrev after : Tables
+      after = heldTables n c f₃ h₀
+
+      abbrev path : Tables
+      path = placePath after (rank after deepest - rank after top) deepest before
+
+      apart₃ : Beside n f f₃
+      apart₃ = beside-now n c top note f h₀ h (W .hanging) f₁ same₁ apart₁ f₂ e₂ deepest f₃ G
+
+      walked₃ : Walked n top (hang top note before) after deepest
+      walked₃ = walked-now n c top note f h₀ h (W .hanging) f₁ same₁ apart₁ f₂ e₂ deepest f₃ G
+
       module _ (f₄ : List ℕ) (G₄ : Climbs n top deepest f₃ f₄) where
-        pub wide-again : Wide n f₄
-        wide-again = wide-by (G₄ .beside .same-long ∙ long-now ∙ long) (W .wide)
+        apart₄ : Beside n f f₄
+        apart₄ = frame-join apart₃ (G₄ .beside)
 
-        pub places-path : Copies 0 (8 * n) (2 * n) f f₁ → (f₅ : List ℕ) → Copies (8 * n) 0 (2 * n) f₄ f₅ → PlacesPath n c top note f h f₅
-        places-path C₁ f₅ C₅ =
-            let saved-now : savedAt n c f₃ h ≡ heldTables n c f h = saved-low n c f₁ f₃ h low-now ∙ saved-forest n c f f₁ h (W .wide) C₁ in
-            record {
-              tables = back-tables n c f₄ f₅ h wide-again C₅ ∙ G₄ .saved c h ∙ rw (tables-now, deep-now, saved-now);
-              beside = beside-join (saved-beside n c f f₁ h (W .wide) C₁) (beside-join low-beside (beside-join (G₄ .beside) (back-beside n c f₄ f₅ h wide-again C₅)));
-            }
+        pub again-chained : Chained n p f₄
+        again-chained = chained-by (apart₄ .same-long) (λ i a b. apart₄ .within i (omega arith) (omega arith)) (W .chained)
 
--- Where the forest is saved there is room for it.
-pub savable : {n : ℕ} {f : List ℕ} → Wide n f → Copyable 0 (8 * n) (2 * n) f
-savable W = record { apart = inl (omega arith); from-in = omega (arith, W .long); to-in = omega (arith, W .long) }
+        label₄ : (v : ℕ) → v < n → labelAt n f₄ v ≡ labelAt n f v
+        label₄ v l = apart₄ .within (7 * n + v) (omega arith) (omega arith)
 
-pub restorable : {n : ℕ} {f : List ℕ} → Wide n f → Copyable (8 * n) 0 (2 * n) f
-restorable W = record { apart = inr (omega arith); from-in = omega (arith, W .long); to-in = omega (arith, W .long) }
+        module _ (f₅ : List ℕ) (C₅ : Copies n p (12 * n) 0 n f₄ f₅) where
+          apart₅ : Beside n f f₅
+          apart₅ = frame-join apart₄ (record { same-long = C₅ .same-long; within = λ i a b. C₅ .behind i (omega arith); past = λ i a. C₅ .behind i (omega arith) })
+
+          -- A member has what was saved of it, or the path's words.
+          saved-alike : (v : ℕ) → v < n → labelAt n f v ≡ p → Alike (savedAt n c f₃ h₀) before v
+          saved-alike v l e =
+              let F = frame-now n c top note f h₀ h (W .hanging) f₁ same₁ apart₁ f₂ e₂ deepest f₃ G in
+              let (a, b) = saved-words n c f₃ h₀ v l in
+              let (x, y) = C₁ .members v l l e in
+              let (i, j) = low-words n c f h₀ v l in
+              (sym a ∙ F .within (12 * n + v) (omega arith) (omega arith) ∙ x ∙ i, sym b ∙ F .within (12 * n + n + v) (omega arith) (omega arith) ∙ y ∙ j)
+
+          member-alike : (v : ℕ) → v < n → labelAt n f v ≡ p → Alike (heldTables n c f₅ h₀) path v
+          member-alike v l e =
+              let (i, j) = low-words n c f₅ h₀ v l in
+              let (x, y) = C₅ .members v l l (label₄ v l ∙ e) in
+              let (a, b) = saved-words n c f₄ h₀ v l in
+              let s = G₄ .saved c h₀ in
+              let S = W .hanging .standing in
+              let (q, r) = path-alike after (rank after deepest - rank after top) deepest (savedAt n c f₃ h₀) before v l
+              (saved-long n c f₃ h₀ (wide-by (apart₃ .same-long) wide)) (S .long-parent, S .long-level) (saved-alike v l e) in
+              (sym i ∙ x ∙ a ∙ ap (λ (t : Tables). parentOf t v) s ∙ q, sym j ∙ y ∙ b ∙ ap (λ (t : Tables). rank t v) s ∙ r)
+
+          -- Every other fragment has what it had: neither the walk nor the path changes it.
+          other-alike : (v : ℕ) → v < n → labelAt n f v ≢ p → Alike (heldTables n c f₅ h₀) path v
+          other-alike v l d =
+              let none : JoinedBy (linked (hang top note before .held)) top v → ⊥ = λ m. d (joined-member v l m) in
+              let (i, j) = low-words n c f₅ h₀ v l in
+              let (x, y) = C₅ .others v l (inr (λ e. d (sym (label₄ v l) ∙ e))) in
+              let (a, b) = low-words n c f₄ h₀ v l in
+              let t = G₄ .tables c h₀ in
+              let (q, r) = hang-other top note before v (λ e. d (ap (labelAt n f) e ∙ W .top-of)) in
+              let (u, w) = path-outside walked₃ (rank after deepest - rank after top) deepest (walked₃ .deepest-in) (omega (arith, walked₃ .deepest-most top here)) before v none in (
+                sym i ∙ x ∙ a ∙ ap (λ (t : Tables). parentOf t v) t ∙ walked₃ .outside-parent v none ∙ q ∙ sym u,
+                sym j ∙ y ∙ b ∙ ap (λ (t : Tables). rank t v) t ∙ walked₃ .outside-rank v none ∙ r ∙ sym w,
+              )
+
+          alike : (v : ℕ) → v < n → Alike (heldTables n c f₅ h₀) path v
+          alike v l = elim (ℕ-discrete (labelAt n f v) p) [ yes e ↦ member-alike v l e | no d ↦ other-alike v l d ]
+
+          path-tables : heldTables n c f₅ h₀ ≡ path
+          unfolding tablesIn parentOf rank
+          path-tables =
+              let S = W .hanging .standing in
+              let (lp, ll) = path-long {n = n} after (rank after deepest - rank after top) deepest before (S .long-parent, S .long-level) in
+              let (en, em, eh, ec) = path-rest after (rank after deepest - rank after top) deepest before in
+              let l0 = section-length n f₅ 0 (omega (arith, wide .long, apart₅ .same-long)) in
+              let l1 = section-length n f₅ 1 (omega (arith, wide .long, apart₅ .same-long)) in
+              tables-are (holds n c) f₅ h₀ path
+              (ext-getD 0 (section n 0 f₅) (path .parent) (l0 ∙ sym lp) (λ v g. alike v (omega arith) .0))
+              (ext-getD 0 (section n 1 f₅) (path .level) (l1 ∙ sym ll) (λ v g. alike v (omega arith) .1))
+              (beside-section apart₅ 2 wide (omega arith) (omega arith) ∙ sym en)
+              (beside-section apart₅ 3 wide (omega arith) (omega arith) ∙ sym em)
+              (sym eh) (sym ec)
+
+          pub path-leaves : PathLeaves n c top note f h₀ f₅
+          path-leaves = record {
+            tables = rw (
+              tables-now n c top note f h₀ h (W .hanging) f₁ same₁ apart₁ f₂ e₂ deepest f₃ G,
+              deep-now n c top note f h₀ h (W .hanging) f₁ same₁ apart₁ f₂ e₂ deepest f₃ G,
+            ) at path-tables;
+            beside = apart₅;
+          }

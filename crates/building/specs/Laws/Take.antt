@@ -1,25 +1,25 @@
 -- Take in Building: what is known where its head refuses nothing, its refusals, and what an accepted block leaves.
 -- Assumes nothing.
-use Prim.Native.Nat.{ℕ, zero, suc, _+_, _-_, _*_, _≤_}
+use Prim.Native.Nat.{ℕ, zero, suc, _+_, _-_, _*_, _/_, _%_, _≤_}
 use mathlib.Core.Path.{_≡_, refl, sym, ap, _∙_}
-use mathlib.Core.Bool.{true, false}
-use mathlib.Core.List.{List, [], _∷_}
+use mathlib.Core.Bool.{Bool, true, false, _&&_, not}
+use mathlib.Core.List.{List, [], _∷_, map}
 use mathlib.Core.Logic.{inl, inr}
 use native.Mathlib.Omega.{arith}
 use native.Mathlib.Decide.{ℕ-discrete}
-use lib.Dec.{T, eqb}
+use lib.Dec.{T, ltb, eqb, ltb→lt}
 use lib.ListN.{length, take, drop}
 use lib.Seq.{drop-drop}
 use Rattle.base.specs.Pick.{pick-true, tests}
-use Rattle.base.specs.Truth.{and-r, T-dec, T-true, T-false, true-T}
+use Rattle.base.specs.Truth.{and-l, and-r, T-dec, T-true, T-false, true-T}
 use Rattle.base.specs.Answer.{gives, refuses}
 use Rattle.lists.specs.List.{andThen, blockLinks, scanBlock}
 use Rattle.lists.specs.Link.{never-both, andThen-gives, answered}
 use Rattle.rules.specs.Links.{Link}
-use Rattle.rules.specs.Tables.{Tables}
+use Rattle.rules.specs.Tables.{Tables, placed}
 use Rattle.rules.specs.Building.{buildLinks}
-use Rattle.state.specs.Layout.{tablesIn, fragOf, heldOf}
-use Rattle.state.specs.Test.{isBuilding, allZero, sound}
+use Rattle.state.specs.Layout.{radix, linkIn, tablesIn, fragOf, heldOf}
+use Rattle.state.specs.Test.{isBuilding, allZero, endsFit, sound}
 use Rattle.state.specs.Call.{boundsRefusal, headRefusal, headed, moved, leaves}
 use Rattle.state.specs.Take.{tell, taken, takeIn}
 use Rattle.state.specs.Told.{takenTold}
@@ -34,7 +34,7 @@ use Rattle.state.specs.declared.Stage.{Stage}
 use Rattle.state.specs.declared.Stage.the-variants.{Building, Built, Reading, Read}
 use Rattle.state.specs.declared.Taken.the-variants.{On, Refused}
 use Rattle.building.specs.Laws.Telling.{drop-more}
-use Rattle.building.specs.Telling.{holds, heldTables, Rest, Tellable, Settles, Told}
+use Rattle.building.specs.Telling.{holds, heldTables, Rising, Rest, Tellable, Settles, Told}
 
 -- What is known where the head of a call in Building refuses nothing.
 pub record Passed (s : State) (f h : List ℕ) : Type 0 where
@@ -63,6 +63,17 @@ passed s f h z =
         ]
       ]
     ]
+
+-- Held links that pass the test stand with the smaller end first.
+abbrev wordFits : ℕ → Tables → ℕ → Bool
+wordFits n t x = ltb (x / radix) (x % radix) && (ltb (x % radix) n && (not (placed t (x / radix)) && not (placed t (x % radix))))
+
+ends-rising : (n : ℕ) (t : Tables) (h : List ℕ) (m : ℕ) → m ≤ length h → T (endsFit n t (map linkIn (take m h))) → Rising m h
+unfolding endsFit linkIn
+ends-rising n t [] m b e i l = absurd (omega arith)
+ends-rising n t (x ∷ h) zero b e i l = absurd (omega arith)
+ends-rising n t (x ∷ h) (suc m) b e zero l = ltb→lt _ _ (and-l (ltb (x / radix) (x % radix)) _ (and-l (wordFits n t x) _ e))
+ends-rising n t (x ∷ h) (suc m) b e (suc i) l = ends-rising n t h m (omega arith) (and-r (wordFits n t x) _ e) i (omega arith)
 
 -- The links of a scanned block, or its refusal.
 module _ (n entries : ℕ) (block : List ℕ) where
@@ -131,6 +142,10 @@ module _ (s : State) (f h block g : List ℕ) (same : g ≡ f) (r : ℕ) (er : r
     same-tables : heldTables (s .n) (s .held) f h ≡ tablesIn s f h
     same-tables = tables-state s (holds (s .n) (s .held)) f h refl refl (sym (found .agrees .uncrossed (λ x. (rw stage at x))))
 
+    held-rising : Rising (s .held) h
+    unfolding tablesIn
+    held-rising = ends-rising (s .n) (tablesIn s f h) h (s .held) (omega (arith, bounds, found .agrees .held-room)) (found .agrees .ends-fit)
+
     pub take-tells : Tellable (s .n) (s .k) (s .held) g h
     take-tells = rw same (record {
       few-fragments = bounds .fragments;
@@ -140,6 +155,7 @@ module _ (s : State) (f h block g : List ℕ) (same : g ≡ f) (r : ℕ) (er : r
       held-long = bounds .held-long;
       underway = rw same-tables (underway s (tablesIn s f h) (found .agrees) (true-T (isBuilding (s .stage)) in-building));
       as-many = rw same-tables (sym (found .agrees .as-many));
+      rising = held-rising;
       blank = found .scratch;
     })
 

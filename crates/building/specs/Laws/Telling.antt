@@ -2,15 +2,16 @@
 -- Assumes nothing.
 use Prim.Native.Nat.{ℕ, zero, suc, _+_, _-_, _*_, _≤_, _<_, min, max}
 use mathlib.Core.Path.{_≡_, refl, sym, ap, _∙_}
-use mathlib.Core.Bool.{Bool, true, false, _||_, not}
+use mathlib.Core.Bool.{Bool, true, false, true≢false, false≢true}
 use mathlib.Core.List.{List, [], _∷_, _++_, map}
 use mathlib.Core.Logic.{inl, inr}
 use native.Mathlib.Omega.{arith}
+use native.Mathlib.Decide.{ℕ-discrete}
 use native.Mathlib.Numerals.{add-one}
 use native.Mathlib.Nat.{mul-le-mul}
-use lib.Dec.{T, ltb, eqb}
+use lib.Dec.{T, ltb}
 use lib.ListN.{length, getD, set, take, drop, replicate, length-set, length-append, length-take, length-replicate}
-use lib.Seq.{getD-drop, drop-set-lt, drop-drop, take-at, drop-at}
+use lib.Seq.{getD-set-same, getD-set-other, set-getD, drop-set-lt, take-take, drop-drop, take-at, drop-at}
 use Rattle.base.specs.Pick.{pick, pick-true, pick-false, tests}
 use Rattle.base.specs.Answer.{Answer, gives, refuses}
 use Rattle.lists.specs.List.{readLink, linksAt}
@@ -19,9 +20,9 @@ use Rattle.lists.specs.Block.{links-end, links-stop, walked}
 use Rattle.base.specs.Truth.{T-true, T-false}
 use Rattle.rules.specs.Links.{Link, between, linked}
 use Rattle.rules.specs.Tables.{Tables, rank, noteOf, placed, putMark, putHeld}
-use Rattle.rules.specs.Building.{pieces, sizeOf, heldIn, better, noteLink, hold, fill, holdLink, buildLink, buildLinks}
+use Rattle.rules.specs.Building.{pieces, better, noteLink, hold, fill, holdLink, buildLink, buildLinks}
 use Rattle.rules.specs.Laws.Facts.{Underway, Loose}
-use Rattle.rules.specs.Laws.Pieces.{label-in, label-own}
+use Rattle.rules.specs.Laws.Pieces.{linked-label, label-in, label-own}
 use Rattle.rules.specs.Laws.Tables.{placed-loose, rank-placed}
 use Rattle.rules.specs.Laws.Quota.{held-few}
 use Rattle.rules.specs.Laws.Step.{building-kept}
@@ -30,29 +31,13 @@ use Rattle.state.specs.Test.{allZero}
 use Rattle.state.specs.Laws.Lists.{zeros-pass}
 use Rattle.state.specs.Laws.Words.{link-word}
 use Rattle.state.specs.Laws.Layout.{store-note, store-mark, store-held, tables-frag-same}
-use Rattle.building.specs.Pieces.{wiped, heldMost, Gathered, LabelIs, Joinable, Joins, Gatherable, Gathers}
-use Rattle.building.specs.Laws.Scratch.{wiped-length}
-use Rattle.building.specs.Telling.{holds, heldTables, Telling, Ends, Leaves, noting, Notable, roomAt, Asked, MayHold, Holdable, Holds, Between, Rest, Tells, Tellable, Told}
-
--- Words past the stored sections say the pieces.
-pub gathered-same : (n : ℕ) (held : List Link) (f f′ : List ℕ) → length f′ ≡ length f → drop (stored * n) f′ ≡ drop (stored * n) f → Gathered n held f → Gathered n held f′
-gathered-same n held f f′ l d G =
-    let at : (i : ℕ) → stored * n ≤ i → getD f′ i 0 ≡ getD f i 0 = λ i h.
-    let e : i ≡ stored * n + (i - stored * n) = omega arith in
-    rw e (sym (getD-drop (stored * n) f′ (i - stored * n) 0) ∙ ap (λ r. getD r (i - stored * n) 0) d ∙ getD-drop (stored * n) f (i - stored * n) 0) in
-    record {
-      pointing = record {
-        few-fragments = G .pointing .few-fragments;
-        long = omega (arith, G .pointing .long);
-        down = λ v h. rw (at (4 * n + v) (omega arith)) (G .pointing .down v h);
-      };
-      few = G .few;
-      inside = G .inside;
-      first = λ v h e. G .first v h (sym (at (4 * n + v) (omega arith)) ∙ e);
-      next = λ v u h e. G .next v u h (sym (at (4 * n + v) (omega arith)) ∙ e);
-      size = λ p h e. rw (at (5 * n + p) (omega arith)) (G .size p h e);
-      links = λ p h e. rw (at (6 * n + p) (omega arith)) (G .links p h e);
-    }
+use Rattle.building.specs.Pieces.{wiped, Ends, heldMost, Gathered, Finds, Joinable, Joins, Gatherable, Gathers}
+use Rattle.building.specs.Noted.{Noted, Apart, Askable, Answers, Learnable}
+use Rattle.building.specs.Laws.Scratch.{wiped-length, blank-at}
+use Rattle.building.specs.Laws.Pieces.{front-at, rest-at, gathered-by}
+use Rattle.building.specs.Laws.Noted.{noted-none, noted-keeps}
+use Rattle.building.specs.Laws.Gather.{link-there}
+use Rattle.building.specs.Telling.{holds, heldTables, Rising, Telling, Leaves, noting, Notable, roomAt, Sized, Holdable, Holds, Between, Within, MayHold, Rest, Tells, Tellable, Told}
 
 -- The better note in its place.
 module _ {n u p : ℕ} {f : List ℕ} (N : Notable n u p f) where
@@ -64,18 +49,19 @@ pub room-is : (n k p : ℕ) (f : List ℕ) (x y : ℕ) → x ≡ getD f (6 * n +
 unfolding roomAt
 room-is n k p f x y d e = rw (d, e, add-one)
 
--- A link to a piece: it leads to another, or there is room.
-module _ (n k p b : ℕ) (f : List ℕ) (q : ℕ) (find : (held : List Link) → Gathered n held f → q ≡ getD (pieces n held) b 0) where
-  pub may-apart : (q ≡ p → ⊥) → MayHold n k p b f true
-  may-apart d held G e =
-      let x : p ≡ getD (pieces n held) b 0 → ⊥ = λ z. d (find held G ∙ sym z) in
-      simp tests
+-- A table that goes on as another from one word goes on so from a later one.
+pub drop-more : (c d : ℕ) (h h′ : List ℕ) → c ≤ d → drop c h′ ≡ drop c h → drop d h′ ≡ drop d h
+drop-more c d h h′ l e =
+    let z : d ≡ c + (d - c) = omega arith in
+    rw z (sym (drop-drop (d - c) c h′) ∙ ap (λ x. drop (d - c) x) e ∙ drop-drop (d - c) c h)
 
-  pub may-room : p < n → q ≡ p → (r : Bool) → r ≡ roomAt n k p f → MayHold n k p b f r
-  unfolding roomAt
-  may-room h d r z held G e =
-      let x : p ≡ getD (pieces n held) b 0 = sym d ∙ find held G in
-      z ∙ rw (G .links p h e, G .size p h e) (simp tests)
+-- Where only the sections of the links noted change, the stored ones and the pieces stand.
+module _ {n : ℕ} {f f′ : List ℕ} (A : Apart n f f′) where
+  apart-stored : take (stored * n) f′ ≡ take (stored * n) f
+  apart-stored = sym (take-take (stored * n) (7 * n) f′ (omega arith)) ∙ ap (λ x. take (stored * n) x) (A .before) ∙ take-take (stored * n) (7 * n) f (omega arith)
+
+  apart-gathered : (held : List Link) → Gathered n held f → Gathered n held f′
+  apart-gathered held G = gathered-by n held f f′ (A .same-long) (λ i l g. front-at (7 * n) f f′ (A .before) i g) G
 
 module _ {n k count : ℕ} {f h : List ℕ} (S : Telling n k count f h) where
   abbrev t : Tables
@@ -83,6 +69,40 @@ module _ {n k count : ℕ} {f h : List ℕ} (S : Telling n k count f h) where
 
   pub leaves-same : Leaves n k count f h count f h t
   leaves-same = record { telling = S; tables = refl; frag-length = refl; frag-past = refl; held-length = refl; held-past = refl; more = omega arith }
+
+  -- Words in scratch changed, and the pieces and the links noted stand there.
+  leaves-scratch : (f′ : List ℕ) → length f′ ≡ length f → take (stored * n) f′ ≡ take (stored * n) f → drop (words * n) f′ ≡ drop (words * n) f → Gathered n (t .held) f′ → Noted n (t .held) f′ → Leaves n k count f h count f′ h t
+  leaves-scratch f′ l e d G N =
+      let same : heldTables n count f′ h ≡ t = tables-frag-same (holds n count) f f′ h e in
+      record {
+        telling = record {
+          few-fragments = S .few-fragments;
+          some-room = S .some-room;
+          few-room = S .few-room;
+          long = omega (arith, S .long);
+          held-long = S .held-long;
+          underway = rw same (S .underway);
+          gathered = rw same G;
+          as-many = rw same (S .as-many);
+          rising = S .rising;
+          noted = rw same N;
+        };
+        tables = same;
+        frag-length = l;
+        frag-past = d;
+        held-length = refl;
+        held-past = refl;
+        more = omega arith;
+      }
+
+  leaves-found : (v r : ℕ) (f′ : List ℕ) → Finds n v f r f′ → Leaves n k count f h count f′ h t
+  leaves-found v r f′ F =
+      leaves-scratch f′ (F .kept .same-length) (F .kept .before) (drop-more (7 * n) (words * n) f f′ (omega arith) (F .kept .behind))
+      (F .stays (t .held) (S .gathered)) (noted-keeps n (t .held) f f′ (F .kept .same-length) (F .kept .behind) (S .noted))
+
+  leaves-asked : (a b : ℕ) (r : Bool) (f′ : List ℕ) → Answers n count a b f h r f′ → Leaves n k count f h count f′ h t
+  unfolding tablesIn
+  leaves-asked a b r f′ A = leaves-scratch f′ (A .apart .same-long) (apart-stored (A .apart)) (A .apart .past) (apart-gathered (A .apart) (t .held) (S .gathered)) (A .noted)
 
   -- A store in a stored section.
   leaves-stored : (i x : ℕ) (t′ : Tables) → i < stored * n → heldTables n count (set f i x) h ≡ t′ → Underway n k t′ → Leaves n k count f h count (set f i x) h t′
@@ -95,12 +115,14 @@ module _ {n k count : ℕ} {f h : List ℕ} (S : Telling n k count f h) where
       long = omega (arith, S .long, length-set f i x);
       held-long = S .held-long;
       underway = rw e u;
-      gathered = gathered-same n _ f (set f i x) (length-set f i x) (drop-set-lt (stored * n) f i x l) (S .gathered);
+      gathered = gathered-by n _ f (set f i x) (length-set f i x) (λ j p q. getD-set-other f i j x 0 (λ z. omega arith)) (S .gathered);
       as-many = S .as-many;
+      rising = S .rising;
+      noted = noted-keeps n _ f (set f i x) (length-set f i x) (drop-set-lt (7 * n) f i x (omega arith)) (S .noted);
     };
     tables = e;
     frag-length = length-set f i x;
-    frag-past = drop-set-lt (7 * n) f i x (omega arith);
+    frag-past = drop-set-lt (words * n) f i x (omega arith);
     held-length = refl;
     held-past = refl;
     more = omega arith;
@@ -173,11 +195,20 @@ module _ {n k count : ℕ} {f h : List ℕ} (S : Telling n k count f h) where
         pub build-hold : {count′ : ℕ} {f′ h′ : List ℕ} → Leaves n k count f h count′ f′ h′ (holdLink n k a b t) → Leaves n k count f h count′ f′ h′ (buildLink n k t (a, b))
         build-hold L = rw (both-loose (ranks-loose a x ex p) (ranks-loose b y ey q)) L
 
--- Of two tests that lead to the same answer one.
-one-test : {A : Type 0} (x y : Bool) (u v : A) → pick x (pick y u v) u ≡ pick (not x || y) u v
-unfolding pick
-one-test true y u v = refl
-one-test false y u v = refl
+-- One thing told after another.
+pub leaves-next : {n k c₀ c c′ : ℕ} {f₀ h₀ f h f′ h′ : List ℕ} {t t′ : Tables} → Leaves n k c₀ f₀ h₀ c f h t → Leaves n k c f h c′ f′ h′ t′ → Leaves n k c₀ f₀ h₀ c′ f′ h′ t′
+leaves-next {n} {k} {c₀} {c} {c′} {f₀} {h₀} {f} {h} L M = record {
+  telling = M .telling;
+  tables = M .tables;
+  frag-length = M .frag-length ∙ L .frag-length;
+  frag-past = M .frag-past ∙ L .frag-past;
+  held-length = M .held-length ∙ L .held-length;
+  held-past = M .held-past ∙ drop-more c c′ h₀ h (M .more) (L .held-past);
+  more = omega (arith, L .more, M .more);
+}
+
+pub leaves-as : {n k c c′ : ℕ} {f h f′ h′ : List ℕ} {t t′ : Tables} → Leaves n k c f h c′ f′ h′ t → t ≡ t′ → Leaves n k c f h c′ f′ h′ t′
+leaves-as L e = rw (← e) L
 
 -- A link between two unplaced fragments.
 module _ {n k count a b : ℕ} {f h : List ℕ} (B : Between n k count a b f h) where
@@ -192,113 +223,239 @@ module _ {n k count a b : ℕ} {f h : List ℕ} (B : Between n k count a b f h) 
   hold-kept : Underway n k (holdLink n k a b t′)
   hold-kept = rw (both-loose S E (B .loose-first) (B .loose-second)) at (build-kept S E)
 
-  pub held-there : count ≤ length h
+  held-there : count ≤ length h
   held-there = omega (arith, held-few n k t′ (S .underway .holding), S .as-many, S .held-long)
 
-  -- Whether it is held, by a look at the words.
-  pub held-seen : (x : Bool) → x ≡ linked (map linkIn (take (count - 0) (drop 0 h))) a b → x ≡ linked (t′ .held) a b
+  pub askable : Askable n count a b f h
   unfolding tablesIn
-  held-seen x e = let z : count - 0 ≡ count = omega arith in (rw z at e)
-
-  pub hold-already : true ≡ linked (t′ .held) a b → Leaves n k count f h count f h (holdLink n k a b t′)
-  unfolding holdLink
-  hold-already e = rw (← e, pick-true) (leaves-same S)
-
-  pub hold-asked : (p : ℕ) → LabelIs n f a p → Asked n k p b f
-  hold-asked p e = record {
-    sized = record {
-      few-fragments = S .few-fragments;
-      some-room = S .some-room;
-      few-room = S .few-room;
-      long = S .long;
-      in-range = rw (e (t′ .held) (S .gathered)) (label-in n (t′ .held) (S .gathered .inside) a (E .first));
-    };
-    pointing = S .gathered .pointing;
-    second = E .second;
+  askable = record {
+    some = omega (arith, E .first);
+    few-fragments = S .few-fragments;
+    long = S .long;
+    there = held-there;
+    ends = E;
+    inside = λ i g. (S .rising i g, S .underway .holding .ends _ _ (link-there h count i g held-there) .1);
+    noted = S .noted;
   }
 
-  module _ (new : false ≡ linked (t′ .held) a b) (p : ℕ) (lab : LabelIs n f a p) (r : Bool) (may : MayHold n k p b f r) where
-    label : getD l a 0 ≡ p
-    label = sym (lab (t′ .held) (S .gathered))
+  -- It is the same link where only scratch changed.
+  between-next : {f′ : List ℕ} → Leaves n k count f h count f′ h t′ → Between n k count a b f′ h
+  between-next L = record { telling = L .telling; ends = E; loose-first = rw (L .tables) (B .loose-first); loose-second = rw (L .tables) (B .loose-second) }
 
-    hold-is : holdLink n k a b t′ ≡ pick r (hold a b t′) (putMark p t′)
-    unfolding holdLink fill
-    hold-is =
-        let own : getD l p 0 ≡ p = rw label at (label-own n (t′ .held) (S .gathered .inside) a (E .first)) in
-        rw (← new, pick-false, label, may (t′ .held) (S .gathered) own) (one-test (eqb p (getD l b 0)) (ltb (heldIn l (t′ .held) p) (k * sizeOf n l p - 1)) (hold a b t′) (putMark p t′))
+  pub may-next : {f′ f″ : List ℕ} {r : Bool} → Leaves n k count f h count f′ h t′ → MayHold n k count a b f′ h r f″ → MayHold n k count a b f h r f″
+  may-next L M = record {
+    same = λ e. leaves-next L (leaves-as (M .same e) (L .tables));
+    new = λ e. (rw (L .tables) at (M .new e));
+    left = λ e. leaves-next L (leaves-as (M .left e) (ap (holdLink n k a b) (L .tables)));
+  }
 
-    module _ (yes-it : r ≡ true) where
-      held-is : holdLink n k a b t′ ≡ hold a b t′
-      held-is = hold-is ∙ rw (yes-it, pick-true)
+  -- The smallest members p and q of its ends' pieces are found. Where they differ it is not held already: a held link's ends have one label.
+  module _ (p q : ℕ) (f₁ f₂ : List ℕ) (P : Finds n a f p f₁) (Q : Finds n b f₁ q f₂) where
+    label-first : p ≡ getD l a 0
+    label-first = P .label (t′ .held) (S .gathered)
 
-      room : length (t′ .held) < k * n
-      unfolding hold putHeld
-      room =
-          let U : Underway n k (hold a b t′) = rw held-is at hold-kept in
-          omega (arith, held-few n k (hold a b t′) (U .holding), length-append (t′ .held) ((min a b, max a b) ∷ []))
+    label-second : q ≡ getD l b 0
+    label-second = Q .label (t′ .held) (P .stays (t′ .held) (S .gathered))
 
-      few-held : length (t′ .held) < heldMost
-      few-held = omega (arith, room, mul-le-mul (S .few-room) (S .few-fragments))
+    pub found-leaves : Leaves n k count f h count f₂ h t′
+    found-leaves =
+        let L = leaves-found S a p f₁ P in
+        leaves-next L (leaves-as (leaves-found (L .telling) b q f₂ Q) (L .tables))
 
-      pub holdable : Holdable n count a b f h
-      holdable = record {
-        few-fragments = S .few-fragments;
-        ends = E;
-        there = omega (arith, room, S .as-many, S .held-long);
-        joinable = record {
-          held = t′ .held;
-          gathered = S .gathered;
-          room = few-held;
-          one = omega (arith, E);
-          two = omega (arith, E);
-        };
+    pub found-apart : (p ≡ q → ⊥) → MayHold n k count a b f h true f₂
+    unfolding holdLink
+    found-apart d =
+        let two : getD l a 0 ≡ getD l b 0 → ⊥ = λ e. d (label-first ∙ e ∙ sym label-second) in
+        let none : linked (t′ .held) a b ≡ false = T-false _ (λ s. two (linked-label n (t′ .held) (S .gathered .inside) a b s)) in
+        record {
+          same = λ e. found-leaves;
+          new = λ e. rw (none, pick-false) (simp tests);
+          left = λ e. absurd (true≢false e);
+        }
+
+    pub found-within : p ≡ q → Within n k count p a b f₂ h
+    found-within e = record {
+      between = between-next found-leaves;
+      first = rw (found-leaves .tables) (sym label-first);
+      second = rw (found-leaves .tables) (sym label-second ∙ sym e);
+    }
+
+-- A link inside the piece with smallest member p.
+module _ {n k count p a b : ℕ} {f h : List ℕ} (W : Within n k count p a b f h) where
+  open Within W using (between as B)
+  open Between B using (telling as S, ends as E)
+
+  abbrev t₁ : Tables
+  t₁ = heldTables n count f h
+
+  own : (p < n) × (getD (pieces n (t₁ .held)) p 0 ≡ p)
+  own =
+      let i = S .gathered .inside in
+      (rw (W .first) at (label-in n (t₁ .held) i a (E .first)), rw (W .first) at (label-own n (t₁ .held) i a (E .first)))
+
+  pub within-sized : Sized n k p f
+  within-sized = record { few-fragments = S .few-fragments; some-room = S .some-room; few-room = S .few-room; long = S .long; in-range = own .0 }
+
+  -- By whether it is held and whether there is room.
+  within-is : (r : Bool) → r ≡ roomAt n k p f → holdLink n k a b t₁ ≡ pick (linked (t₁ .held) a b) t₁ (pick r (hold a b t₁) (putMark p t₁))
+  unfolding holdLink fill roomAt
+  within-is r e =
+      rw (e, S .gathered .links p (own .0) (own .1), S .gathered .size p (own .0) (own .1), W .first, W .second) (simp tests)
+
+  -- Full and lost: nothing changes.
+  pub within-lost : false ≡ roomAt n k p f → getD f (3 * n + p) 0 ≡ 1 → MayHold n k count a b f h false f
+  unfolding pick
+  within-lost e z =
+      let again : putMark p t₁ ≡ t₁ = sym (store-mark (holds n count) f h p (own .0)) ∙ ap (λ x. heldTables n count x h) (rw z at (set-getD f (3 * n + p) 0)) in
+      let same : (x : Bool) → pick x t₁ (putMark p t₁) ≡ t₁ = λ x. elim x [ true ↦ refl | false ↦ again ] in
+      record {
+        same = λ x. absurd (false≢true x);
+        new = λ x. absurd (false≢true x);
+        left = λ x. leaves-as (leaves-same S) (sym (within-is false e ∙ same (linked (t₁ .held) a b)));
       }
 
-      module _ (f′ h′ : List ℕ) (H : Holds n count a b f h f′ h′) where
-        held-tables : heldTables n (count + 1) f′ h′ ≡ hold a b t′
-        unfolding hold
-        held-tables =
-            tables-frag-same (holds n (count + 1)) f f′ h′ (H .joins .kept .before)
-            ∙ ap (λ x. heldTables n (count + 1) f x) (H .word)
-            ∙ store-held (holds n count) (holds n (count + 1)) f h refl (wordOf (min a b, max a b)) refl refl (holdable .there)
-            ∙ ap (λ x. putHeld (t′ .held ++ (x ∷ [])) t′) (link-word (min a b) (max a b) (omega (arith, S .few-fragments, E)))
+  -- By the answer r whether it is held.
+  module _ (r : Bool) (f′ : List ℕ) (A : Answers n count a b f h r f′) where
+    asked-leaves : Leaves n k count f h count f′ h t₁
+    asked-leaves = leaves-asked S a b r f′ A
 
-        held-gathered : Gathered n (hold a b t′ .held) f′
-        unfolding hold putHeld
-        held-gathered = H .joins .more (t′ .held) few-held (S .gathered)
+    asked-is : r ≡ linked (t₁ .held) a b
+    unfolding tablesIn
+    asked-is = A .held
 
-        held-many : length (hold a b t′ .held) ≡ count + 1
-        unfolding hold putHeld
-        held-many = omega (arith, length-append (t′ .held) ((min a b, max a b) ∷ []), S .as-many)
+    pub within-held : r ≡ true → MayHold n k count a b f h false f′
+    unfolding holdLink
+    within-held e = record {
+      same = λ x. absurd (false≢true x);
+      new = λ x. absurd (false≢true x);
+      left = λ x. leaves-as asked-leaves (sym (rw (← asked-is, e, pick-true)));
+    }
 
-        pub hold-more : Leaves n k count f h (count + 1) f′ h′ (holdLink n k a b t′)
-        hold-more =
-            let long : length f′ ≡ length f = H .joins .kept .same-length in
-            let hlong : length h′ ≡ length h = ap length (H .word) ∙ length-set h count (wordOf (min a b, max a b)) in
-            rw held-is (record {
-              telling = record {
-                few-fragments = S .few-fragments;
-                some-room = S .some-room;
-                few-room = S .few-room;
-                long = omega (arith, S .long, long);
-                held-long = omega (arith, S .held-long, hlong);
-                underway = rw (held-tables, ← held-is) hold-kept;
-                gathered = rw held-tables held-gathered;
-                as-many = rw held-tables held-many;
-              };
-              tables = held-tables;
-              frag-length = long;
-              frag-past = H .joins .kept .behind;
-              held-length = hlong;
-              held-past = ap (λ x. drop (count + 1) x) (H .word) ∙ drop-set-lt (count + 1) h count (wordOf (min a b, max a b)) (omega arith);
-              more = omega arith;
-            })
+    module _ (none : r ≡ false) where
+      pub within-room : true ≡ roomAt n k p f → MayHold n k count a b f h true f′
+      within-room e = record {
+        same = λ x. asked-leaves;
+        new = λ x. within-is true e ∙ rw (← asked-is, none, pick-false, pick-true);
+        left = λ x. absurd (true≢false x);
+      }
 
-    pub hold-lost : r ≡ false → Leaves n k count f h count (set f (3 * n + p) 1) h (holdLink n k a b t′)
-    hold-lost e =
-        let lost : holdLink n k a b t′ ≡ putMark p t′ = hold-is ∙ rw (e, pick-false) in
-        let q : p < n = hold-asked p lab .sized .in-range in
-        rw lost (leaves-stored S (3 * n + p) 1 (putMark p t′) (omega arith) (store-mark (holds n count) f h p q) (rw lost at hold-kept))
+      pub within-full : false ≡ roomAt n k p f → MayHold n k count a b f h false (set f′ (3 * n + p) 1)
+      within-full e =
+          let lost : holdLink n k a b t₁ ≡ putMark p t₁ = within-is false e ∙ rw (← asked-is, none, pick-false, pick-false) in
+          let M = asked-leaves .telling in
+          let marked : heldTables n count (set f′ (3 * n + p) 1) h ≡ putMark p t₁ = store-mark (holds n count) f′ h p (own .0) ∙ ap (putMark p) (asked-leaves .tables) in
+          record {
+            same = λ x. absurd (false≢true x);
+            new = λ x. absurd (false≢true x);
+            left = λ x. leaves-next asked-leaves (leaves-as (leaves-stored M (3 * n + p) 1 (putMark p t₁) (omega (arith, own .0)) marked (rw lost at (hold-kept B))) (sym lost));
+          }
+
+-- A new link that is held.
+module _ {n k count a b : ℕ} {f₀ f h : List ℕ} (B₀ : Between n k count a b f₀ h) {r : Bool} (M : MayHold n k count a b f₀ h r f) (yes-it : r ≡ true) where
+  B : Between n k count a b f h
+  B = between-next B₀ (M .same yes-it)
+
+  open Between B using (telling as S, ends as E)
+
+  abbrev t₂ : Tables
+  t₂ = heldTables n count f h
+
+  held-is : holdLink n k a b t₂ ≡ hold a b t₂
+  held-is = rw (M .same yes-it .tables) (M .new yes-it)
+
+  room : length (t₂ .held) < k * n
+  unfolding hold putHeld
+  room =
+      let U : Underway n k (hold a b t₂) = rw held-is at (hold-kept B) in
+      omega (arith, held-few n k (hold a b t₂) (U .holding), length-append (t₂ .held) ((min a b, max a b) ∷ []))
+
+  few-held : length (t₂ .held) < heldMost
+  few-held = omega (arith, room, mul-le-mul (S .few-room) (S .few-fragments))
+
+  pub holdable : Holdable n count a b f h
+  holdable = record {
+    few-fragments = S .few-fragments;
+    ends = E;
+    there = omega (arith, room, S .as-many, S .held-long);
+    joinable = record {
+      held = t₂ .held;
+      gathered = S .gathered;
+      room = few-held;
+      one = omega (arith, E);
+      two = omega (arith, E);
+    };
+  }
+
+  module _ (f′ h′ : List ℕ) (H : Holds n count a b f h f′ h′) where
+    held-noted : Noted n (t₂ .held) f′
+    held-noted = noted-keeps n (t₂ .held) f f′ (H .joins .kept .same-length) (H .joins .kept .behind) (S .noted)
+
+    pub learnable : Learnable n a b f′
+    learnable = record {
+      some = omega (arith, E .first);
+      few-fragments = S .few-fragments;
+      long = omega (arith, S .long, H .joins .kept .same-length);
+      ends = E;
+      held = t₂ .held;
+      noted = held-noted;
+    }
+
+    module _ (f″ : List ℕ) (N : (held : List Link) → Noted n held f′ → Noted n (held ++ ((min a b, max a b) ∷ [])) f″) (A : Apart n f′ f″) where
+      held-tables : heldTables n (count + 1) f″ h′ ≡ hold a b t₂
+      unfolding hold
+      held-tables =
+          tables-frag-same (holds n (count + 1)) f f″ h′ (apart-stored A ∙ H .joins .kept .before)
+          ∙ ap (λ x. heldTables n (count + 1) f x) (H .word)
+          ∙ store-held (holds n count) (holds n (count + 1)) f h refl (wordOf (min a b, max a b)) refl refl (holdable .there)
+          ∙ ap (λ x. putHeld (t₂ .held ++ (x ∷ [])) t₂) (link-word (min a b) (max a b) (omega (arith, S .few-fragments, E)))
+
+      held-gathered : Gathered n (hold a b t₂ .held) f″
+      unfolding hold putHeld
+      held-gathered = apart-gathered A _ (H .joins .more (t₂ .held) few-held (S .gathered))
+
+      held-noted-more : Noted n (hold a b t₂ .held) f″
+      unfolding hold putHeld
+      held-noted-more = N (t₂ .held) held-noted
+
+      held-many : length (hold a b t₂ .held) ≡ count + 1
+      unfolding hold putHeld
+      held-many = omega (arith, length-append (t₂ .held) ((min a b, max a b) ∷ []), S .as-many)
+
+      held-rising : Rising (count + 1) h′
+      held-rising i g =
+          let w = wordOf (min a b, max a b) in
+          rw (H .word) (elim (ℕ-discrete i count) [
+            | yes e ↦ rw (e, getD-set-same h count w 0 (holdable .there), link-word (min a b) (max a b) (omega (arith, S .few-fragments, E))) (omega (arith, E .differ))
+            | no d ↦ rw (getD-set-other h count i w 0 d) (S .rising i (omega arith))
+          ])
+
+      held-leaves : Leaves n k count f h (count + 1) f″ h′ (holdLink n k a b t₂)
+      held-leaves =
+          let long : length f″ ≡ length f = A .same-long ∙ H .joins .kept .same-length in
+          let hlong : length h′ ≡ length h = ap length (H .word) ∙ length-set h count (wordOf (min a b, max a b)) in
+          rw held-is (record {
+            telling = record {
+              few-fragments = S .few-fragments;
+              some-room = S .some-room;
+              few-room = S .few-room;
+              long = omega (arith, S .long, long);
+              held-long = omega (arith, S .held-long, hlong);
+              underway = rw (held-tables, ← held-is) (hold-kept B);
+              gathered = rw held-tables held-gathered;
+              as-many = rw held-tables held-many;
+              rising = held-rising;
+              noted = rw held-tables held-noted-more;
+            };
+            tables = held-tables;
+            frag-length = long;
+            frag-past = A .past ∙ drop-more (7 * n) (words * n) f f′ (omega arith) (H .joins .kept .behind);
+            held-length = hlong;
+            held-past = ap (λ x. drop (count + 1) x) (H .word) ∙ drop-set-lt (count + 1) h count (wordOf (min a b, max a b)) (omega arith);
+            more = omega arith;
+          })
+
+      pub hold-more : Leaves n k count f₀ h (count + 1) f″ h′ (holdLink n k a b (heldTables n count f₀ h))
+      hold-more = leaves-next (M .same yes-it) (leaves-as held-leaves (ap (holdLink n k a b) (M .same yes-it .tables)))
 
 -- A link is held with its smaller end first.
 module _ {n count a b : ℕ} {f h : List ℕ} (H : Holdable n count a b f h) where
@@ -325,26 +482,6 @@ holds-falling {n} {count} {a} {b} {f} {h} l w z j =
     let e : min a b ≡ b = omega arith in
     let g : max a b ≡ a = omega arith in
     record { word = rw (e, g) (ap (λ x. set h count x) z); joins = rw (e, g) j }
-
--- The links of a block, one after another.
-pub drop-more : (c d : ℕ) (h h′ : List ℕ) → c ≤ d → drop c h′ ≡ drop c h → drop d h′ ≡ drop d h
-drop-more c d h h′ l e =
-    let z : d ≡ c + (d - c) = omega arith in
-    rw z (sym (drop-drop (d - c) c h′) ∙ ap (λ x. drop (d - c) x) e ∙ drop-drop (d - c) c h)
-
-pub leaves-next : {n k c₀ c c′ : ℕ} {f₀ h₀ f h f′ h′ : List ℕ} {t t′ : Tables} → Leaves n k c₀ f₀ h₀ c f h t → Leaves n k c f h c′ f′ h′ t′ → Leaves n k c₀ f₀ h₀ c′ f′ h′ t′
-leaves-next {n} {k} {c₀} {c} {c′} {f₀} {h₀} {f} {h} L M = record {
-  telling = M .telling;
-  tables = M .tables;
-  frag-length = M .frag-length ∙ L .frag-length;
-  frag-past = M .frag-past ∙ L .frag-past;
-  held-length = M .held-length ∙ L .held-length;
-  held-past = M .held-past ∙ drop-more c c′ h₀ h (M .more) (L .held-past);
-  more = omega (arith, L .more, M .more);
-}
-
-pub leaves-as : {n k c c′ : ℕ} {f h f′ h′ : List ℕ} {t t′ : Tables} → Leaves n k c f h c′ f′ h′ t → t ≡ t′ → Leaves n k c f h c′ f′ h′ t′
-leaves-as L e = rw (← e) L
 
 -- Before byte `at` the block's links are told; those from there on lead to what the whole block leaves.
 pub record Midway (n k first entries : ℕ) (block f₀ h₀ : List ℕ) (count : ℕ) (f h : List ℕ) (told at : ℕ) : Type 0 where
@@ -414,7 +551,7 @@ module _ (from to : ℕ) (l : List ℕ) (b : from ≤ to) (g : to ≤ length l) 
   wiped-zero = rw (wiped-rest, take-at (replicate (to - from) 0) (drop to l) (to - from) (length-replicate (to - from) 0)) (zeros-pass (to - from))
 
 module _ {n k count : ℕ} {f h : List ℕ} (W : Tellable n k count f h) where
-  open Tellable W using (few-fragments, some-room, few-room, long, held-long, underway, as-many, blank)
+  open Tellable W using (few-fragments, some-room, few-room, long, held-long, underway, as-many, rising, blank)
 
   few-links : count ≤ k * n
   few-links = omega (arith, held-few n k (heldTables n count f h) (underway .holding))
@@ -448,6 +585,8 @@ module _ {n k count : ℕ} {f h : List ℕ} (W : Tellable n k count f h) where
       underway = rw same-tables underway;
       gathered = rw links-same (G .gathered);
       as-many = rw same-tables as-many;
+      rising = rising;
+      noted = noted-none n _ g (omega (arith, G .kept .same-length)) (λ i l q. rest-at (7 * n) f g (G .kept .behind) i l ∙ blank-at n f long blank i (omega arith) q);
     }
 
     pub told-settles : (entries : ℕ) (block : List ℕ) {count′ : ℕ} {f′ h′ : List ℕ} → Tells n k count entries block g h count′ f′ h′ → (f″ : List ℕ) → f″ ≡ wiped (4 * n) (16 * n) f′ → Told n k count entries block f h count′ f″ h′
@@ -462,7 +601,7 @@ module _ {n k count : ℕ} {f h : List ℕ} (W : Tellable n k count f h) where
           tables = kept ∙ L .tables ∙ all;
           blank = rw z at (wiped-zero (4 * n) (16 * n) f′ (omega arith) (S .long));
           frag-length = wiped-length (4 * n) (16 * n) f′ (omega arith) (S .long) ∙ L .frag-length ∙ G .kept .same-length;
-          frag-past = wiped-past (4 * n) (16 * n) f′ (omega arith) (S .long) ∙ drop-more (7 * n) (16 * n) g f′ (omega arith) (L .frag-past) ∙ drop-more (7 * n) (16 * n) f g (omega arith) (G .kept .behind);
+          frag-past = wiped-past (4 * n) (16 * n) f′ (omega arith) (S .long) ∙ L .frag-past ∙ drop-more (7 * n) (16 * n) f g (omega arith) (G .kept .behind);
           held-length = L .held-length;
           held-past = L .held-past;
           more = L .more;

@@ -1,127 +1,28 @@
--- What the stores of a walk change, which neighbour it goes to next, and that its loop makes the walk of the rules.
+-- What the stores of a walk change, and that its loop makes the walk of the rules.
 -- Assumes nothing.
 use Prim.Native.Nat.{ℕ, suc, pred, _+_, _-_, _*_, _≤_, _<_}
 use mathlib.Core.Path.{_≡_, refl, sym, ap, _∙_}
-use mathlib.Core.Bool.{Bool, _&&_, not}
-use mathlib.Core.List.{List, [], _∷_, map}
-use mathlib.Core.Logic.{_⊎_, inl, inr, _≢_}
+use mathlib.Core.List.{List}
+use mathlib.Core.Logic.{inr, _≢_}
 use native.Mathlib.Omega.{arith}
 use native.Mathlib.Decide.{ℕ-discrete}
 use native.Mathlib.Numerals.{add-one}
 use borrow.Author.Tests.{eq-eqb, ne-eqb}
-use lib.Dec.{T, ltb, eqb, not-T, T-not}
-use lib.ListN.{length, getD, set, take, drop, length-set}
-use lib.Seq.{drop-set-lt}
+use lib.Dec.{T, ltb, eqb}
+use lib.ListN.{length, getD, set, drop, length-set}
+use lib.Seq.{drop-set-lt, getD-set-same, getD-set-other}
 use Rattle.base.specs.Pick.{pick, pick-true, pick-false, pick-all, tests}
-use Rattle.base.specs.Truth.{and-intro, and-l, and-r}
-use Rattle.rules.specs.Links.{Link, between, linked}
-use Rattle.rules.specs.Search.{first}
-use Rattle.rules.specs.Tables.{Tables, parentOf, rank, placed, place}
+use Rattle.rules.specs.Tables.{parentOf, rank, placed, place}
 use Rattle.rules.specs.Building.{Walk, hang, nextOf, reachNext, goBack, walkStep, walkSteps, walked}
 use Rattle.rules.specs.Laws.Facts.{Standing, Loose}
-use Rattle.rules.specs.Laws.Links.{between-elim, between-here, between-turn, linked-nil, append-left, snoc-cases, snoc-last}
-use Rattle.rules.specs.Laws.Tables.{placed-loose, placed-or-loose, placed-place-same, placed-place-other, standing-same, standing-place}
-use Rattle.rules.specs.Laws.Kept.{parent-placed}
-use Rattle.rules.specs.Laws.Tables.{rank-most}
+use Rattle.rules.specs.Laws.Tables.{placed-loose, placed-place-same, placed-place-other, standing-same, standing-place, rank-most}
 use Rattle.rules.specs.Laws.Walk.{step-on, step-back, back-at, back-rest, steps-suc, steps-rest, next-new}
-use Rattle.state.specs.Layout.{linkIn, tablesIn, forestIn}
-use Rattle.state.specs.Laws.Layout.{level-word, store-place}
-use Rattle.building.specs.Closing.{Wide, otherEnd, Nearer, putAt, hungAt, reachedAt, deeper, Reachable, Walkable, Walks}
+use Rattle.state.specs.Layout.{words, tablesIn, forestIn}
+use Rattle.state.specs.Laws.Layout.{level-word, parent-word, store-place, store-scratch}
+use Rattle.building.specs.Arranged.{startOf, leastOf, greaterAt, Arranged, Frame}
+use Rattle.building.specs.Walk.{Placed, smallerOf, greaterOf, Behind, cursorsAt, enteredAt, Seekable, Seeks, putAt, hungAt, reachedAt, deeper, Reachable, Walkable, WalkLeaves}
 use Rattle.building.specs.Telling.{heldTables, holds}
-use Rattle.building.specs.Laws.Gather.{links-more}
-use Rattle.building.specs.Laws.Choosing.{first-is}
-
--- The other end of a held link of v.
-module _ (n : ℕ) (h : List ℕ) (i v : ℕ) where
-  pub other-larger : linkIn (getD h i 0) .0 ≡ v → linkIn (getD h i 0) .1 ≡ otherEnd n h i v
-  unfolding otherEnd
-  other-larger e = simp tests
-
-  pub other-smaller : (linkIn (getD h i 0) .0 ≡ v → ⊥) → linkIn (getD h i 0) .1 ≡ v → linkIn (getD h i 0) .0 ≡ otherEnd n h i v
-  unfolding otherEnd
-  other-smaller d e = simp tests
-
-  pub other-none : (linkIn (getD h i 0) .0 ≡ v → ⊥) → (linkIn (getD h i 0) .1 ≡ v → ⊥) → n ≡ otherEnd n h i v
-  unfolding otherEnd
-  other-none d e = simp tests
-
-  -- It is what the link joins v with.
-  other-joins : (u : ℕ) → T (between (linkIn (getD h i 0)) v u) → otherEnd n h i v ≡ u
-  other-joins u q = elim (between-elim (linkIn (getD h i 0) .0) (linkIn (getD h i 0) .1) v u q) [
-    | inl (e, g) ↦ sym (other-larger e) ∙ g
-    | inr (e, g) ↦ elim (ℕ-discrete (linkIn (getD h i 0) .0) v) [
-      | yes d ↦ sym (other-larger d) ∙ g ∙ sym d ∙ e
-      | no d ↦ sym (other-smaller d g) ∙ e
-    ]
-  ]
-
-  joins-other : otherEnd n h i v < n → T (between (linkIn (getD h i 0)) v (otherEnd n h i v))
-  joins-other l = elim (ℕ-discrete (linkIn (getD h i 0) .0) v) [
-    | yes d ↦ rw (← other-larger d, ← d) (between-here (linkIn (getD h i 0) .0) (linkIn (getD h i 0) .1))
-    | no d ↦ elim (ℕ-discrete (linkIn (getD h i 0) .1) v) [
-      | yes e ↦ rw (← other-smaller d e, ← e) (between-turn (linkIn (getD h i 0)) (linkIn (getD h i 0) .0) (linkIn (getD h i 0) .1) (between-here (linkIn (getD h i 0) .0) (linkIn (getD h i 0) .1)))
-      | no e ↦ absurd (omega (arith, other-none d e))
-    ]
-  ]
-
--- The links of the first i held words.
-abbrev linksOf : List ℕ → ℕ → List Link
-linksOf h i = map linkIn (take i h)
-
--- The smallest unplaced fragment linked with v by one of the first i held words; n while there is none.
-pub record Next (n : ℕ) (t : Tables) (h : List ℕ) (v i best : ℕ) : Type 0 where
-  pub within : best ≤ n
-  pub passes : best < n → T (linked (linksOf h i) v best) × Loose t best
-  pub least : (k : ℕ) → k < best → T (linked (linksOf h i) v k) → Loose t k → ⊥
-
-module _ (n : ℕ) (t : Tables) (h : List ℕ) (v : ℕ) where
-  pub next-none-yet : Next n t h v 0 n
-  next-none-yet = record { within = omega arith; passes = λ l. absurd (omega arith); least = λ k l q e. linked-nil v k q }
-
-  module _ (i best : ℕ) (l : i < length h) (N : Next n t h v i best) where
-    cases : (k : ℕ) → T (linked (linksOf h (i + 1)) v k) → T (linked (linksOf h i) v k) ⊎ (otherEnd n h i v ≡ k)
-    cases k q = elim (snoc-cases (linksOf h i) (linkIn (getD h i 0)) v k (rw (links-more h i l) at q)) [
-      | inl a ↦ inl a
-      | inr b ↦ inr (other-joins n h i v k b)
-    ]
-
-    next-same : (best ≤ otherEnd n h i v) ⊎ (Loose t (otherEnd n h i v) → ⊥) → Next n t h v (i + 1) best
-    next-same d = record {
-      within = N .within;
-      passes = λ g. let (a, b) = N .passes g in (rw (links-more h i l) (append-left (linksOf h i) (linkIn (getD h i 0) ∷ []) v best a), b);
-      least = λ k g q e. elim (cases k q) [
-        | inl a ↦ N .least k g a e
-        | inr x ↦ elim d [ inl a ↦ omega arith | inr b ↦ b (rw x e) ]
-      ];
-    }
-
-    next-better : otherEnd n h i v < best → Loose t (otherEnd n h i v) → Next n t h v (i + 1) (otherEnd n h i v)
-    next-better g e = record {
-      within = omega (arith, N .within);
-      passes = λ q. (rw (links-more h i l) (snoc-last (linksOf h i) (linkIn (getD h i 0)) v (otherEnd n h i v) (joins-other n h i v q)), e);
-      least = λ k a q b. elim (cases k q) [
-        | inl z ↦ N .least k (omega arith) z b
-        | inr x ↦ omega arith
-      ];
-    }
-
-pub next-turn : (n c : ℕ) (f h : List ℕ) (v i best x r : ℕ) → i < length h → Next n (heldTables n c f h) h v i best → x ≡ otherEnd n h i v → Nearer n f x best r → Next n (heldTables n c f h) h v (i + 1) r
-unfolding tablesIn rank
-next-turn n c f h v i best x r l N q d = elim (rw q at d) [
-  | inl (e, g, o) ↦ rw e (next-better n (heldTables n c f h) h v i best l N g o)
-  | inr (e, o) ↦ rw e (next-same n (heldTables n c f h) h v i best l N o)
-]
-
-pub next-found : (n c : ℕ) (f h : List ℕ) (v best : ℕ) → Next n (heldTables n c f h) h v c best → best ≡ nextOf n (heldTables n c f h) v
-unfolding nextOf tablesIn
-next-found n c f h v best N =
-    let t = heldTables n c f h in
-    first-is (λ w. linked (t .held) v w && not (placed t w)) n best (N .within)
-    (λ l. let (a, b) = N .passes l in and-intro (linked (linksOf h c) v best) (not (placed t best)) a (not-T (placed t best) (λ p. placed-loose t best p b)))
-    (λ k l q. N .least k l (and-l (linked (linksOf h c) v k) (not (placed t k)) q) (elim (placed-or-loose t k) [
-      | inl p ↦ absurd (T-not (placed t k) (and-r (linked (linksOf h c) v k) (not (placed t k)) q) p)
-      | inr e ↦ e
-    ]))
+use Rattle.building.specs.Laws.Seeking.{arranged-wide, greater-in, placed-word, word-placed}
 
 -- What is known of the forest alone.
 pub bare-standing : (n c : ℕ) (f h : List ℕ) → Standing n (heldTables n c f h) → Standing n (forestIn n f)
@@ -154,9 +55,9 @@ module _ (n at x deepest : ℕ) (f : List ℕ) where
       let g : suc (getD f (n + at) 0) ≤ getD f (n + deepest) 0 = omega arith in
       simp tests
 
-pub reached-put : (n at x : ℕ) (f : List ℕ) → putAt n x at (getD f (n + at) 0 + 1) f ≡ reachedAt n at x f
+pub reached-put : (n at x : ℕ) (f g g′ : List ℕ) → g ≡ putAt n x at (getD f (n + at) 0 + 1) f → g′ ≡ enteredAt n x g → g′ ≡ reachedAt n at x f
 unfolding reachedAt
-reached-put n at x f = rw add-one
+reached-put n at x f g g′ e d = d ∙ ap (λ (k : List ℕ). enteredAt n x k) (e ∙ ap (λ (r : ℕ). putAt n x at r f) (add-one (getD f (n + at) 0)))
 
 -- What the stores change of the tables.
 module _ (n c : ℕ) (f h : List ℕ) where
@@ -164,9 +65,9 @@ module _ (n c : ℕ) (f h : List ℕ) where
   unfolding putAt
   put-tables v p r l = store-place (holds n c) f h v r l p
 
-  reached-tables : (at x : ℕ) → at < n → x < n → heldTables n c (reachedAt n at x f) h ≡ place x at (suc (rank (heldTables n c f h) at)) (heldTables n c f h)
-  unfolding reachedAt
-  reached-tables at x l g = rw (level-word (holds n c) f h at l) (put-tables x at (suc (rank (heldTables n c f h) at)) g)
+  cursors-tables : (v s g : ℕ) → heldTables n c (cursorsAt n v s g f) h ≡ heldTables n c f h
+  unfolding cursorsAt
+  cursors-tables v s g = store-scratch (holds n c) (set f (14 * n + v) s) h (15 * n + v) g (omega arith) ∙ store-scratch (holds n c) f h (14 * n + v) s (omega arith)
 
   deeper-is : (at x d : ℕ) → at < n → d < n → deeper n at x d f ≡ pick (ltb (rank (heldTables n c f h) d) (suc (rank (heldTables n c f h) at))) x d
   unfolding deeper
@@ -178,6 +79,13 @@ module _ (n c : ℕ) (f h : List ℕ) where
     | yes e ↦ rw (eq-eqb note 0 e, pick-true, pick-true) (put-tables top top 1 l)
     | no d ↦ rw (ne-eqb note 0 d, pick-false, pick-false, level-word (holds n c) f h (pred note) (omega arith)) (put-tables top (pred note) (suc (rank (heldTables n c f h) (pred note))) l)
   ]
+
+reached-tables : (n c : ℕ) (f h : List ℕ) (at x : ℕ) → at < n → x < n → heldTables n c (reachedAt n at x f) h ≡ place x at (suc (rank (heldTables n c f h) at)) (heldTables n c f h)
+unfolding reachedAt enteredAt
+reached-tables n c f h at x l g =
+    cursors-tables n c (putAt n x at (suc (getD f (n + at) 0)) f) h x _ _
+    ∙ ap (λ (r : ℕ). heldTables n c (putAt n x at (suc r) f) h) (level-word (holds n c) f h at l)
+    ∙ put-tables n c f h x at (suc (rank (heldTables n c f h) at)) g
 
 -- They change nothing but the sections of the parents and the levels.
 module _ (n : ℕ) (f : List ℕ) where
@@ -207,118 +115,355 @@ module _ (n : ℕ) (f : List ℕ) where
       let e : note - 1 ≡ pred note = omega arith in
       rw (e, add-one, ne-eqb note 0 d, pick-false)
 
+-- Nothing but two words changes where a fragment is placed or its cursors are kept.
+pub frame-trans : {n a b : ℕ} {f g k : List ℕ} → Frame n a b f g → Frame n a b g k → Frame n a b f k
+frame-trans F G = record {
+  same-long = G .same-long ∙ F .same-long;
+  within = λ i p q. G .within i p q ∙ F .within i p q;
+  past = λ i p. G .past i p ∙ F .past i p;
+}
+
+module _ (n : ℕ) (f : List ℕ) (v : ℕ) (l : v < n) where
+  module _ (p r : ℕ) where
+    put-same : (i : ℕ) → i ≢ v → i ≢ n + v → getD (putAt n v p r f) i 0 ≡ getD f i 0
+    unfolding putAt
+    put-same i a b = getD-set-other (set f v p) (n + v) i r 0 b ∙ getD-set-other f v i p 0 a
+
+    put-parent : words * n ≤ length f → getD (putAt n v p r f) v 0 ≡ p
+    unfolding putAt
+    put-parent b = getD-set-other (set f v p) (n + v) v r 0 (omega arith) ∙ getD-set-same f v p 0 (omega arith)
+
+    put-level : words * n ≤ length f → getD (putAt n v p r f) (n + v) 0 ≡ r
+    unfolding putAt
+    put-level b = getD-set-same (set f v p) (n + v) r 0 (simp length-set (omega arith))
+
+    put-frame : Frame n 2 14 f (putAt n v p r f)
+    put-frame = record {
+      same-long = put-long n f v p r;
+      within = λ i a b. put-same i (omega arith) (omega arith);
+      past = λ i a. put-same i (omega arith) (omega arith);
+    }
+
+  module _ (s g : ℕ) where
+    cursors-same : (i : ℕ) → i ≢ 14 * n + v → i ≢ 15 * n + v → getD (cursorsAt n v s g f) i 0 ≡ getD f i 0
+    unfolding cursorsAt
+    cursors-same i a b = getD-set-other (set f (14 * n + v) s) (15 * n + v) i g 0 b ∙ getD-set-other f (14 * n + v) i s 0 a
+
+    cursors-smaller : words * n ≤ length f → smallerOf n (cursorsAt n v s g f) v ≡ s
+    unfolding cursorsAt
+    cursors-smaller b = getD-set-other (set f (14 * n + v) s) (15 * n + v) (14 * n + v) g 0 (omega arith) ∙ getD-set-same f (14 * n + v) s 0 (omega arith)
+
+    cursors-greater : words * n ≤ length f → greaterOf n (cursorsAt n v s g f) v ≡ g
+    unfolding cursorsAt
+    cursors-greater b = getD-set-same (set f (14 * n + v) s) (15 * n + v) g 0 (simp length-set (omega arith))
+
+    cursors-frame : Frame n 2 14 f (cursorsAt n v s g f)
+    unfolding cursorsAt
+    cursors-frame = record {
+      same-long = simp length-set;
+      within = λ i a b. cursors-same i (omega arith) (omega arith);
+      past = λ i a. cursors-same i (omega arith) (omega arith);
+    }
+
+-- Links stay arranged while sections 4 to 6 do not change.
+pub arranged-kept : {n c : ℕ} {h₀ f h : List ℕ} → Arranged n c h₀ f h → 0 < n → (f′ : List ℕ) → length f′ ≡ length f → ((i : ℕ) → 4 * n ≤ i → i < 7 * n → getD f′ i 0 ≡ getD f i 0) → Arranged n c h₀ f′ h
+arranged-kept {n} {c} {h₀} {f} {h} A some f′ long same = record {
+  few = A .few;
+  long = omega (arith, A .long);
+  there = A .there;
+  among = A .among;
+  ordered = λ v l. omega (arith, A .ordered v l, start v (omega arith), start (suc v) l);
+  last = omega (arith, A .last, start n (omega arith));
+  greater = λ v i l a b. A .greater v i l (from v i l a) (to v i l b);
+  rising = λ v i j l a g b. A .rising v i j l (from v i l a) g (to v j l b);
+  found = λ v w g t.
+      let l : v < n = A .among v w t .0 in
+      let (i, a, b, e) = A .found v w g t in
+      (i, omega (arith, start v (omega arith)), omega (arith, start (suc v) l), e);
+  no-least = λ b l z. A .no-least b l (sym (least-same b l) ∙ z);
+  least = λ b a l e. A .least b a l (sym (least-same b l) ∙ e);
+  no-after = λ a i l p q. A .no-after a i l (from a i l p) (to a i l q);
+  after = λ a i l p q. A .after a i l (from a i l p) (to a i l q);
+}
+  where
+    start : (v : ℕ) → v ≤ n → startOf n f′ v ≡ startOf n f v
+    start v l = same (4 * n + v) (omega arith) (omega arith)
+
+    least-same : (v : ℕ) → v < n → leastOf n f′ v ≡ leastOf n f v
+    least-same v l = same (6 * n + v) (omega arith) (omega arith)
+
+    from : (v i : ℕ) → v < n → startOf n f′ v ≤ i → startOf n f v ≤ i
+    from v i l a = omega (arith, start v (omega arith))
+
+    to : (v i : ℕ) → v < n → i < startOf n f′ (suc v) → i < startOf n f (suc v)
+    to v i l a = omega (arith, start (suc v) l)
+
+framed-arranged : {n c : ℕ} {h₀ f f′ h : List ℕ} → Arranged n c h₀ f h → 0 < n → Frame n 2 14 f f′ → Arranged n c h₀ f′ h
+framed-arranged A some F = arranged-kept A some _ (F .same-long) (λ i a b. F .within i (omega arith) (omega arith))
+
+-- A fragment on the way that the walk came: it is placed, and so is all that its cursors passed.
+pub record On (n c : ℕ) (h₀ f h : List ℕ) (v : ℕ) : Type 0 where
+  pub in-range : v < n
+  pub is-placed : Placed n f v
+  pub behind : Behind n c h₀ f h v (smallerOf n f v) (greaterOf n f v)
+
+-- What is passed stays so while more is placed.
+module _ {n c : ℕ} {h₀ f h : List ℕ} (A : Arranged n c h₀ f h) {f′ : List ℕ} (F : Frame n 2 14 f f′) (grows : (x : ℕ) → x < n → Placed n f x → Placed n f′ x) where
+  behind-kept : (v s g : ℕ) → v < n → Behind n c h₀ f h v s g → Behind n c h₀ f′ h v s g
+  behind-kept v s g l B =
+      let p = F .within (4 * n + v) (omega arith) (omega arith) in
+      let q = F .within (4 * n + suc v) (omega arith) (omega arith) in
+      record {
+        smaller = record {
+          through = λ z x m t. grows x (omega arith) (B .smaller .through z x m t);
+          before = λ a z. let (m, t, b) = B .smaller .before a z in (m, t, λ x o u. grows x (omega arith) (b x o u));
+        };
+        greater = record {
+          from = omega (arith, p, B .greater .from);
+          to = omega (arith, q, B .greater .to);
+          before = λ i m o. grows (greaterAt h i) (greater-in A v i l (omega arith) (omega (arith, B .greater .to))) (B .greater .before i (omega arith) o);
+        };
+      }
+
+  on-kept : (v s g : ℕ) → v < n → Placed n f v → smallerOf n f′ v ≡ s → greaterOf n f′ v ≡ g → Behind n c h₀ f h v s g → On n c h₀ f′ h v
+  on-kept v s g l p d e B = record { in-range = l; is-placed = grows v l p; behind = rw (d, e) (behind-kept v s g l B) }
+
+-- The cursors of v are kept.
+module _ {n c : ℕ} {h₀ f h : List ℕ} (A : Arranged n c h₀ f h) (v : ℕ) (l : v < n) (s g : ℕ) where
+  cursors-grow : (x : ℕ) → x < n → Placed n f x → Placed n (cursorsAt n v s g f) x
+  cursors-grow x m p = omega (arith, cursors-same n f v l s g (n + x) (omega arith) (omega arith))
+
+  cursors-arranged : Arranged n c h₀ (cursorsAt n v s g f) h
+  cursors-arranged = framed-arranged A (omega arith) (cursors-frame n f v l s g)
+
+  module _ (B : Behind n c h₀ f h v s g) where
+    cursors-here : Placed n f v → On n c h₀ (cursorsAt n v s g f) h v
+    cursors-here p = on-kept A (cursors-frame n f v l s g) cursors-grow v s g l p (cursors-smaller n f v l s g (A .long)) (cursors-greater n f v l s g (A .long)) B
+
+    cursors-on : (u : ℕ) → On n c h₀ f h u → On n c h₀ (cursorsAt n v s g f) h u × (getD (cursorsAt n v s g f) u 0 ≡ getD f u 0)
+    cursors-on u O =
+        let i = O .in-range in (
+          elim (ℕ-discrete u v) [
+            | yes e ↦ rw e (cursors-here (rw e at (O .is-placed)))
+            | no d ↦ on-kept A (cursors-frame n f v l s g) cursors-grow u _ _ i (O .is-placed) (cursors-same n f v l s g (14 * n + u) (omega arith) (omega arith)) (cursors-same n f v l s g (15 * n + u) (omega arith) (omega arith)) (O .behind)
+          ],
+          cursors-same n f v l s g u (omega arith) (omega arith),
+        )
+
+-- Cursors at their start have passed nothing.
+entered-behind : {n c : ℕ} {h₀ f h : List ℕ} → Arranged n c h₀ f h → (v : ℕ) → v < n → Behind n c h₀ f h v (leastOf n f v) (startOf n f v)
+entered-behind A v l = record {
+  smaller = record {
+    through = λ z x m t. absurd (A .no-least v l z x m t);
+    before = λ a z. let (m, t, none) = A .least v a l z in (m, t, λ x o u. absurd (none x o u));
+  };
+  greater = record { from = omega arith; to = A .ordered v l; before = λ i m o. absurd (omega arith) };
+}
+
+-- The way that the walk came, from a fragment back to the top.
+pub data Way (n c top : ℕ) (h₀ f h : List ℕ) : ℕ → Type 0 where
+  at-top : On n c h₀ f h top → Way n c top h₀ f h top
+  below : (v : ℕ) → On n c h₀ f h v → Way n c top h₀ f h (getD f v 0) → Way n c top h₀ f h v
+
+way-on : {n c top : ℕ} {h₀ f h : List ℕ} {v : ℕ} → Way n c top h₀ f h v → On n c h₀ f h v
+way-on (at-top o) = o
+way-on (below v o w) = o
+
+way-back : {n c top : ℕ} {h₀ f h : List ℕ} {v : ℕ} → Way n c top h₀ f h v → v ≢ top → Way n c top h₀ f h (getD f v 0)
+way-back (at-top o) d = absurd (d refl)
+way-back (below v o w) d = w
+
+way-kept : {n c top : ℕ} {h₀ f f′ h : List ℕ} → ((u : ℕ) → On n c h₀ f h u → On n c h₀ f′ h u × (getD f′ u 0 ≡ getD f u 0)) → {v : ℕ} → Way n c top h₀ f h v → Way n c top h₀ f′ h v
+way-kept {top = top} k (at-top o) = at-top (k top o .0)
+way-kept k (below v o w) = below v (k v o .0) (rw (k v o .1) (way-kept k w))
+
 -- A walk on its way: the steps that are left make it the whole walk.
 abbrev walkAt : (n c : ℕ) (f h : List ℕ) (at deepest : ℕ) → Walk
 walkAt n c f h at deepest = record { tables = heldTables n c f h; at = at; deepest = deepest }
 
-pub record Going (n c top : ℕ) (f₀ h f : List ℕ) (left at deepest : ℕ) : Type 0 where
-  pub same-long : length f ≡ length f₀
-  pub steps : walkSteps n top left (walkAt n c f h at deepest) ≡ walked n top (heldTables n c f₀ h)
-  pub standing : Standing n (heldTables n c f h)
-  pub at-in : at < n
-  pub at-placed : T (placed (heldTables n c f h) at)
+pub record Going (n c top : ℕ) (f₀ h₀ h f : List ℕ) (left at deepest : ℕ) : Type 0 where
+  pub frame : Frame n 2 14 f₀ f
+  pub arranged : Arranged n c h₀ f h
+  pub steps : walkSteps n top left (walkAt n c f h₀ at deepest) ≡ walked n top (heldTables n c f₀ h₀)
+  pub standing : Standing n (heldTables n c f h₀)
+  pub way : Way n c top h₀ f h at
   pub deep-in : deepest < n
-  pub deep-placed : T (placed (heldTables n c f h) deepest)
-  pub kept : drop (2 * n) f ≡ drop (2 * n) f₀
+  pub deep-placed : T (placed (heldTables n c f h₀) deepest)
 
-pub going-starts : (n c top : ℕ) (f h : List ℕ) → Walkable n c top f h → Going n c top f h f (2 * n) top top
-unfolding walked
-going-starts n c top f h W = record {
-  same-long = refl;
-  steps = refl;
-  standing = W .standing;
-  at-in = W .top-in;
-  at-placed = W .top-placed;
-  deep-in = W .top-in;
-  deep-placed = W .top-placed;
-  kept = refl;
-}
+-- From any table in which the top was entered, along any links.
+abbrev pub Goes : (n c top : ℕ) (f₁ h f : List ℕ) (left at deepest : ℕ) → Type 0
+Goes n c top f₁ h f left at deepest = (f₀ h₀ : List ℕ) → f₁ ≡ enteredAt n top f₀ → Walkable n c top f₀ h₀ h → Going n c top f₀ h₀ h f left at deepest
 
-module _ (n c top : ℕ) (f₀ h f : List ℕ) (left at deepest : ℕ) (G : Going n c top f₀ h f left at deepest) where
+pub going-starts : {n c top : ℕ} {f h₀ h : List ℕ} → Walkable n c top f h₀ h → (f′ : List ℕ) → f′ ≡ enteredAt n top f → Going n c top f h₀ h f′ (2 * n) top top
+unfolding walked enteredAt
+going-starts {n} {c} {top} {f} {h₀} {h} W f′ e =
+    let A = W .arranged in
+    let l = W .top-in in
+    let s = leastOf n f top in
+    let g = startOf n f top in
+    let q = cursors-tables n c f h₀ top s g in
+    rw e (record {
+      frame = cursors-frame n f top l s g;
+      arranged = cursors-arranged A top l s g;
+      steps = rw q refl;
+      standing = rw q (W .standing);
+      way = at-top (cursors-here A top l s g (entered-behind A top l) (placed-word n c f h₀ top l (W .top-placed)));
+      deep-in = l;
+      deep-placed = rw q (W .top-placed);
+    })
+
+module _ {n c top : ℕ} {f₀ h₀ h f : List ℕ} {left at deepest : ℕ} (G : Going n c top f₀ h₀ h f left at deepest) where
+  at-on : On n c h₀ f h at
+  at-on = way-on (G .way)
+
+  at-placed : T (placed (heldTables n c f h₀) at)
+  at-placed = word-placed n c f h₀ at (at-on .in-range) (at-on .is-placed)
+
+  pub going-seekable : Seekable n at f h
+  going-seekable = record { in-range = at-on .in-range; count = c; told = h₀; arranged = G .arranged; behind = at-on .behind }
+
+  -- The cursors where it is have moved on.
+  pub going-seeks : (x : ℕ) (f′ : List ℕ) → Seeks n at x f h f′ → Going n c top f₀ h₀ h f′ left at deepest × (x ≡ nextOf n (heldTables n c f′ h₀) at)
+  going-seeks x f′ S =
+      let A = G .arranged in
+      let l = at-on .in-range in
+      let s = S .smaller in
+      let g = S .greater in
+      let q = cursors-tables n c f h₀ at s g in
+      let Z = S .sought c h₀ A (at-on .behind) in
+      rw (S .stores) (
+        record {
+          frame = frame-trans (G .frame) (cursors-frame n f at l s g);
+          arranged = cursors-arranged A at l s g;
+          steps = rw q (G .steps);
+          standing = rw q (G .standing);
+          way = way-kept (cursors-on A at l s g (Z .behind)) (G .way);
+          deep-in = G .deep-in;
+          deep-placed = rw q (G .deep-placed);
+        },
+        rw q (Z .next),
+      )
+
   -- Where it rests, or no step is left, it is the whole walk.
-  going-whole : walkSteps n top left (walkAt n c f h at deepest) ≡ walkAt n c f h at deepest → Walks n c top deepest f₀ h f
+  going-whole : walkSteps n top left (walkAt n c f h₀ at deepest) ≡ walkAt n c f h₀ at deepest → WalkLeaves n c top deepest f₀ h₀ f
   going-whole e =
-      let w : walkAt n c f h at deepest ≡ walked n top (heldTables n c f₀ h) = sym e ∙ G .steps in
+      let w : walkAt n c f h₀ at deepest ≡ walked n top (heldTables n c f₀ h₀) = sym e ∙ G .steps in
       record {
         tables = ap (λ (x : Walk). x .tables) w;
         deep = ap (λ (x : Walk). x .deepest) w;
         deep-in = G .deep-in;
         deep-placed = G .deep-placed;
         standing = G .standing;
-        same-long = G .same-long;
-        kept = G .kept;
+        frame = G .frame;
       }
 
-  pub going-ends : left ≡ 0 → Walks n c top deepest f₀ h f
+  pub going-ends : left ≡ 0 → WalkLeaves n c top deepest f₀ h₀ f
   unfolding walkSteps
   going-ends e = going-whole (rw e refl)
 
-  pub going-rests : n ≤ nextOf n (heldTables n c f h) at → at ≡ top → Walks n c top deepest f₀ h f
-  going-rests g e = going-whole (steps-rest n top (walkAt n c f h at deepest) (step-back n top (walkAt n c f h at deepest) g ∙ back-rest top (walkAt n c f h at deepest) e) left)
+  pub going-rests : n ≤ nextOf n (heldTables n c f h₀) at → at ≡ top → WalkLeaves n c top deepest f₀ h₀ f
+  going-rests g e = going-whole (steps-rest n top (walkAt n c f h₀ at deepest) (step-back n top (walkAt n c f h₀ at deepest) g ∙ back-rest top (walkAt n c f h₀ at deepest) e) left)
 
-  pub going-reachable : Wide n f → (x : ℕ) → x < n → Reachable n at x deepest f
-  going-reachable W x l = record {
-    wide = W;
-    at-in = G .at-in;
+  pub going-reachable : (x : ℕ) → x < n → Reachable n at x deepest f
+  going-reachable x l = record {
+    wide = arranged-wide (G .arranged);
+    at-in = at-on .in-range;
     new-in = l;
     deepest-in = G .deep-in;
-    level = rw (bare-rank n c f h at) (rank-most (G .standing) at (G .at-in));
+    level = rw (bare-rank n c f h₀ at) (rank-most (G .standing) at (at-on .in-range));
   }
 
   module _ (some : 0 < left) where
-    after : (w : Walk) → walkStep n top (walkAt n c f h at deepest) ≡ w → walkSteps n top (left - 1) w ≡ walked n top (heldTables n c f₀ h)
+    after : (w : Walk) → walkStep n top (walkAt n c f h₀ at deepest) ≡ w → walkSteps n top (left - 1) w ≡ walked n top (heldTables n c f₀ h₀)
     after w e =
         let one-more : left ≡ suc (left - 1) = omega arith in
-        sym (steps-suc n top (left - 1) (walkAt n c f h at deepest) e) ∙ ap (λ (k : ℕ). walkSteps n top k (walkAt n c f h at deepest)) (sym one-more) ∙ G .steps
+        sym (steps-suc n top (left - 1) (walkAt n c f h₀ at deepest) e) ∙ ap (λ (k : ℕ). walkSteps n top k (walkAt n c f h₀ at deepest)) (sym one-more) ∙ G .steps
 
-    pub going-back : n ≤ nextOf n (heldTables n c f h) at → at ≢ top → (p : ℕ) → p ≡ parentOf (heldTables n c f h) at → Going n c top f₀ h f (left - 1) p deepest
+    pub going-back : n ≤ nextOf n (heldTables n c f h₀) at → at ≢ top → Going n c top f₀ h₀ h f (left - 1) (getD f at 0) deepest
     unfolding goBack
-    going-back g d p e =
-        let (i, q) = parent-placed (G .standing) at (G .at-in) (G .at-placed) in
-        rw e (record {
-          same-long = G .same-long;
-          steps = after (walkAt n c f h (parentOf (heldTables n c f h) at) deepest) (step-back n top (walkAt n c f h at deepest) g ∙ ap (λ (x : ℕ). walkAt n c f h x deepest) (back-at top (walkAt n c f h at deepest) d));
-          standing = G .standing;
-          at-in = i;
-          at-placed = q;
-          deep-in = G .deep-in;
-          deep-placed = G .deep-placed;
-          kept = G .kept;
-        })
+    going-back g d = record {
+      frame = G .frame;
+      arranged = G .arranged;
+      steps = after (walkAt n c f h₀ (getD f at 0) deepest) (step-back n top (walkAt n c f h₀ at deepest) g ∙ ap (λ (x : ℕ). walkAt n c f h₀ x deepest) (back-at top (walkAt n c f h₀ at deepest) d ∙ sym (parent-word (holds n c) f h₀ at (at-on .in-range))));
+      standing = G .standing;
+      way = way-back (G .way) d;
+      deep-in = G .deep-in;
+      deep-placed = G .deep-placed;
+    }
 
-    module _ (x : ℕ) (e : x ≡ nextOf n (heldTables n c f h) at) (l : x < n) where
-      new-loose : Loose (heldTables n c f h) x
-      new-loose = rw e (next-new n (heldTables n c f h) at (rw e at l) .1)
+    module _ (x : ℕ) (e : x ≡ nextOf n (heldTables n c f h₀) at) (l : x < n) where
+      new-loose : Loose (heldTables n c f h₀) x
+      new-loose = rw e (next-new n (heldTables n c f h₀) at (rw e at l) .1)
 
-      reach-is : walkStep n top (walkAt n c f h at deepest) ≡ walkAt n c (reachedAt n at x f) h x (deeper n at x deepest f)
+      reach-is : walkStep n top (walkAt n c f h₀ at deepest) ≡ walkAt n c (reachedAt n at x f) h₀ x (deeper n at x deepest f)
       unfolding reachNext
       reach-is =
-          step-on n top (walkAt n c f h at deepest) (rw e at l)
-          ∙ rw (← e, reached-tables n c f h at x (G .at-in) l, deeper-is n c f h at x deepest (G .at-in) (G .deep-in))
+          step-on n top (walkAt n c f h₀ at deepest) (rw e at l)
+          ∙ rw (← e, reached-tables n c f h₀ at x (at-on .in-range) l, deeper-is n c f h₀ at x deepest (at-on .in-range) (G .deep-in))
 
-      level-long : x < length (heldTables n c f h .level)
+      level-long : x < length (heldTables n c f h₀ .level)
       level-long = omega (arith, G .standing .long-level)
 
-      placed-still : (v : ℕ) → T (placed (heldTables n c f h) v) → T (placed (heldTables n c (reachedAt n at x f) h) v)
+      placed-still : (v : ℕ) → T (placed (heldTables n c f h₀) v) → T (placed (heldTables n c (reachedAt n at x f) h₀) v)
       placed-still v p =
-          let t = heldTables n c f h in
-          rw (reached-tables n c f h at x (G .at-in) l, placed-place-other x at (suc (rank t at)) t v (λ q. placed-loose t v p (rw q new-loose))) p
+          let t = heldTables n c f h₀ in
+          rw (reached-tables n c f h₀ at x (at-on .in-range) l, placed-place-other x at (suc (rank t at)) t v (λ q. placed-loose t v p (rw q new-loose))) p
 
-      new-placed : T (placed (heldTables n c (reachedAt n at x f) h) x)
-      new-placed = rw (reached-tables n c f h at x (G .at-in) l) (placed-place-same x at (suc (rank (heldTables n c f h) at)) (heldTables n c f h) level-long (omega arith))
+      new-placed : T (placed (heldTables n c (reachedAt n at x f) h₀) x)
+      new-placed = rw (reached-tables n c f h₀ at x (at-on .in-range) l) (placed-place-same x at (suc (rank (heldTables n c f h₀) at)) (heldTables n c f h₀) level-long (omega arith))
 
-      reached-on : Going n c top f₀ h (reachedAt n at x f) (left - 1) x (deeper n at x deepest f)
-      unfolding reachedAt deeper
+      -- x is placed, and its cursors are not kept yet.
+      abbrev put : List ℕ
+      put = putAt n x at (suc (getD f (n + at) 0)) f
+
+      other : (u : ℕ) → u < n → Placed n f u → u ≢ x
+      other u m p q = omega (arith, ap (λ (k : ℕ). getD f (n + k) 0) q, level-word (holds n c) f h₀ x l, new-loose)
+
+      put-grow : (u : ℕ) → u < n → Placed n f u → Placed n put u
+      put-grow u m p =
+          let d = other u m p in
+          omega (arith, put-same n f x l at (suc (getD f (n + at) 0)) (n + u) (omega arith) (omega arith))
+
+      put-on : (u : ℕ) → On n c h₀ f h u → On n c h₀ put h u × (getD put u 0 ≡ getD f u 0)
+      put-on u O =
+          let i = O .in-range in
+          let d = other u i (O .is-placed) in
+          let same = put-same n f x l at (suc (getD f (n + at) 0)) in
+          (on-kept (G .arranged) (put-frame n f x l at _) put-grow u _ _ i (O .is-placed) (same (14 * n + u) (omega arith) (omega arith)) (same (15 * n + u) (omega arith) (omega arith)) (O .behind), same u d (omega arith))
+
+      put-arranged : Arranged n c h₀ put h
+      put-arranged = framed-arranged (G .arranged) (omega arith) (put-frame n f x l at _)
+
+      reached-frame : Frame n 2 14 f (reachedAt n at x f)
+      unfolding reachedAt enteredAt
+      reached-frame = frame-trans (put-frame n f x l at _) (cursors-frame n put x l _ _)
+
+      reached-arranged : Arranged n c h₀ (reachedAt n at x f) h
+      unfolding reachedAt enteredAt
+      reached-arranged = cursors-arranged put-arranged x l _ _
+
+      reached-way : Way n c top h₀ (reachedAt n at x f) h x
+      unfolding reachedAt enteredAt
+      reached-way =
+          let s = leastOf n put x in
+          let g = startOf n put x in
+          let B = entered-behind put-arranged x l in
+          let q = G .arranged .long in
+          let parent : getD (cursorsAt n x s g put) x 0 ≡ at = cursors-same n put x l s g x (omega arith) (omega arith) ∙ put-parent n f x l at _ q in
+          below x (cursors-here put-arranged x l s g B (omega (arith, put-level n f x l at (suc (getD f (n + at) 0)) q)))
+          (rw parent (way-kept (cursors-on put-arranged x l s g B) (way-kept put-on (G .way))))
+
+      reached-on : Going n c top f₀ h₀ h (reachedAt n at x f) (left - 1) x (deeper n at x deepest f)
+      unfolding deeper
       reached-on = record {
-        same-long = put-long n f x at _ ∙ G .same-long;
-        steps = after (walkAt n c (reachedAt n at x f) h x (deeper n at x deepest f)) reach-is;
-        standing = rw (reached-tables n c f h at x (G .at-in) l) (standing-place x at (suc (rank (heldTables n c f h) at)) (G .standing) l new-loose (inr (G .at-in, G .at-placed, refl)));
-        at-in = l;
-        at-placed = new-placed;
+        frame = frame-trans (G .frame) reached-frame;
+        arranged = reached-arranged;
+        steps = after (walkAt n c (reachedAt n at x f) h₀ x (deeper n at x deepest f)) reach-is;
+        standing = rw (reached-tables n c f h₀ at x (at-on .in-range) l) (standing-place x at (suc (rank (heldTables n c f h₀) at)) (G .standing) l new-loose (inr (at-on .in-range, at-placed, refl)));
+        way = reached-way;
         deep-in = pick-all (λ d. d < n) (ltb (getD f (n + deepest) 0) (suc (getD f (n + at) 0))) x deepest l (G .deep-in);
-        deep-placed = pick-all (λ d. T (placed (heldTables n c (reachedAt n at x f) h) d)) (ltb (getD f (n + deepest) 0) (suc (getD f (n + at) 0))) x deepest new-placed (placed-still deepest (G .deep-placed));
-        kept = put-kept n f x at _ l ∙ G .kept;
+        deep-placed = pick-all (λ d. T (placed (heldTables n c (reachedAt n at x f) h₀) d)) (ltb (getD f (n + deepest) 0) (suc (getD f (n + at) 0))) x deepest new-placed (placed-still deepest (G .deep-placed));
       }
 
-      pub going-on : (f′ : List ℕ) (d : ℕ) → d ≡ deeper n at x deepest f → f′ ≡ reachedAt n at x f → Going n c top f₀ h f′ (left - 1) x d
+      pub going-on : (f′ : List ℕ) (d : ℕ) → d ≡ deeper n at x deepest f → f′ ≡ reachedAt n at x f → Going n c top f₀ h₀ h f′ (left - 1) x d
       going-on f′ d e g = rw (e, g) reached-on

@@ -1,87 +1,80 @@
--- `numbers::read_number` meets its contract. The loop's invariant: what the bytes from `next` on say, on top of `value`, is the whole answer.
+-- `numbers::read_number` meets its contract. Each answer is the one that the bytes read so far leave.
 -- Assumes nothing.
-use Prim.Native.Nat.{_-_, _%_}
+use Prim.Native.Nat.{_+_, _*_, _/_, _<_, _≤_}
 use mathlib.Core.Path.{_∙_}
 use native.Mathlib.Omega.{arith}
 use borrow.Author.Needs.{needs}
-use Rattle.numbers.specs.Number.{groupsMost, valueMost, readNumber}
-use Rattle.numbers.specs.Reading.{Going, going-starts, going-out, going-end, going-room, going-fits, going-long, going-far, going-number, going-more}
+use Rattle.numbers.specs.Reading.{Follows, follows, third-small, read-end, read-one, read-out, read-long, read-far, read-more}
 use Rattle.numbers.proofs.read_number.Statement.{statement}
 use Rattle.numbers.proofs.read_number.Tie as tie
 
-abbrev Inv-loop : tie.InvT-loop
-Inv-loop bytes at value₀ scale₀ least₀ next₀ groups₀ value scale least next groups = Going groupsMost valueMost bytes at value scale least next groups
+-- Whether a third byte follows, and that what it adds is small.
+more : (c : tie.After-byte-at2) → Follows (c .before .byte-at .result) (c .before .byte-at .result / 128)
+more c =
+    let l = c .before .before .before .before .before .before in
+    follows _ (omega (arith, l .shared-slice-known .given (l .before .args .at + 1)))
 
-abbrev μ-loop : tie.MeasureT-loop
-μ-loop bytes at value₀ scale₀ least₀ next₀ groups₀ value scale least next groups = groupsMost - groups
+small : (c : tie.After-byte-at2) → (c .before .byte-at .result / 128 ≤ 1) × (c .before .byte-at .result / 128 * c .byte-at2 .result < 256)
+small c =
+    let l = c .before .before .before .before .before .before in
+    third-small (more c) _ (omega (arith, l .shared-slice-known .given (l .before .args .at + 2)))
 
-loop-holds : tie.Need-loop-holds Inv-loop μ-loop
-loop-holds c = going-starts _ _ _ _
+returns : tie.Need-returns
+returns c = c .no-number .ensures ∙ read-end _ _ (omega arith)
 
-returns : tie.Need-returns Inv-loop μ-loop
-unfolding readNumber
-returns c = c .no-number .ensures ∙ going-end (c .before .before .before .loop .inv) (omega arith) (omega arith)
+returns-2 : tie.Need-returns-2
+returns-2 c = read-one _ _ (omega arith) _ (c .before .wide .ensures) (omega arith)
 
-returns-2 : tie.Need-returns-2 Inv-loop μ-loop
-unfolding readNumber
-returns-2 c = c .no-number2 .ensures ∙ going-long (c .before .before .before .before .before .before .before .loop .inv) (omega arith) (omega arith) _ (c .before .before .before .wide .ensures) (omega arith) (omega arith)
+returns-3 : tie.Need-returns-3
+returns-3 c =
+    let d = c .before .before in
+    c .no-number2 .ensures ∙ read-out _ _ (omega arith) _ (d .before .before .before .wide .ensures) (omega arith) _ (d .before .byte-at .ensures) (more d) (omega arith)
 
-mul-value : tie.Need-mul-value Inv-loop μ-loop
-mul-value c = omega (arith, going-fits (c .before .before .before .before .before .before .loop .inv) (omega arith) (c .before .before .wide .result) (omega arith))
+returns-4 : tie.Need-returns-4
+returns-4 c =
+    let d = c .before .before .before in
+    c .no-number3 .ensures ∙ read-long _ _ (omega arith) _ (d .before .before .before .wide .ensures) (omega arith) _ (d .before .byte-at .ensures) _ (d .byte-at2 .ensures) (more d) (omega arith) (omega arith)
 
-add-value : tie.Need-add-value Inv-loop μ-loop
-add-value c = omega (arith, going-fits (c .before .before .before .before .before .before .loop .inv) (omega arith) (c .before .before .wide .result) (omega arith))
+returns-5 : tie.Need-returns-5
+returns-5 c =
+    let d = c .before .before .before .before in
+    c .no-number4 .ensures ∙ read-far _ _ (omega arith) _ (d .before .before .before .wide .ensures) (omega arith) _ (d .before .byte-at .ensures) _ (d .byte-at2 .ensures) (more d) (omega arith) (omega arith)
 
-returns-3 : tie.Need-returns-3 Inv-loop μ-loop
-unfolding readNumber
-returns-3 c = c .no-number3 .ensures ∙ going-far (c .before .before .before .before .before .before .before .before .loop .inv) (omega arith) (omega arith) _ (c .before .before .before .before .wide .ensures) (omega arith) (omega arith) (omega arith)
-
-returns-4 : tie.Need-returns-4 Inv-loop μ-loop
-unfolding readNumber
-returns-4 c = going-number (c .before .before .before .before .before .before .before .loop .inv) (omega arith) (omega arith) _ (c .before .before .before .wide .ensures) (omega arith) (omega arith) (omega arith)
-
-mul-value-2 : tie.Need-mul-value-2 Inv-loop μ-loop
-mul-value-2 c = omega (arith, going-fits (c .before .before .before .before .before .loop .inv) (omega arith) (c .before .wide .result % 128) (omega arith))
-
-add-value-2 : tie.Need-add-value-2 Inv-loop μ-loop
-add-value-2 c = omega (arith, going-fits (c .before .before .before .before .before .loop .inv) (omega arith) (c .before .wide .result % 128) (omega arith))
-
-mul-scale : tie.Need-mul-scale Inv-loop μ-loop
-mul-scale c = omega (arith, going-room (c .before .before .before .before .before .loop .inv) (omega arith))
-
-loop-again : tie.Need-loop-again Inv-loop μ-loop
-loop-again c = going-more (c .before .before .before .before .before .loop .inv) (omega arith) (omega arith) _ (c .before .wide .ensures) (omega arith)
-
-returns-5 : tie.Need-returns-5 Inv-loop μ-loop
-unfolding readNumber
-returns-5 c = c .no-number4 .ensures ∙ going-out (c .before .before .loop .inv) (omega arith)
+returns-6 : tie.Need-returns-6
+returns-6 c =
+    let d = c .before .before .before in
+    read-more _ _ (omega arith) _ (d .before .before .before .wide .ensures) (omega arith) _ (d .before .byte-at .ensures) _ (d .byte-at2 .ensures) (more d) (omega arith) (omega arith) (omega arith)
 
 pub read-number-spec : {M : Type 1} → statement M
 read-number-spec =
     tie.close
     (tie.spec
-    Inv-loop
-    μ-loop
-    loop-holds
     (λ c κs. search needs)
     returns
     (λ c. search needs)
     (λ c κs. search needs)
     (λ c. search needs)
-    (λ c κs. search needs)
+    (λ c. search needs)
     returns-2
-    mul-value
-    add-value
+    (λ c. search needs)
+    (λ c κs. search needs)
+    (λ c. search needs)
+    (λ c κs. search needs)
+    (λ c. search needs)
     (λ c. search needs)
     (λ c κs. search needs)
     returns-3
     (λ c. search needs)
-    returns-4
-    mul-value-2
-    add-value-2
-    mul-scale
     (λ c. search needs)
-    (λ c. search needs)
-    loop-again
+    (λ c. omega (arith, small (c .before)))
+    (λ c. omega (arith, small (c .before)))
+    (λ c. omega (arith, small (c .before)))
+    (λ c. omega (arith, small (c .before)))
+    (λ c. omega (arith, small (c .before)))
     (λ c κs. search needs)
-    returns-5)
+    returns-4
+    (λ c. search needs)
+    (λ c κs. search needs)
+    returns-5
+    (λ c. search needs)
+    returns-6)

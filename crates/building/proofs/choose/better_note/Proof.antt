@@ -8,15 +8,15 @@ use Rattle.building.proofs.choose.better_note.Tie as tie
 use Rattle.building.proofs.choose.better_note.Reads as reads
 use Rattle.building.proofs.choose.better_note.Lts as lts
 
--- src/choose.rt:14:9
+-- src/choose.rt:16:9
 returns : tie.Need-returns
 returns c = (better-old _ _ _ (omega arith), omega arith)
 
--- src/choose.rt:17:9
+-- src/choose.rt:19:9
 returns-2 : tie.Need-returns-2
 returns-2 c = (better-new _ _ _ (omega arith) (omega arith), omega arith)
 
--- src/choose.rt:22:9
+-- src/choose.rt:24:9
 returns-3 : tie.Need-returns-3
 returns-3 c =
     let a = c .before .before .before .before .before .args in
@@ -24,7 +24,7 @@ returns-3 c =
     let y = noted-level (a .n) (a .frag .now) (a .new) (omega arith) (omega arith) in
     (better-deeper _ _ _ (omega arith) (omega arith) (omega arith), omega arith)
 
--- src/choose.rt:25:9
+-- src/choose.rt:27:9
 returns-4 : tie.Need-returns-4
 returns-4 c =
     let a = c .before .before .before .before .before .before .args in
@@ -32,7 +32,7 @@ returns-4 c =
     let y = noted-level (a .n) (a .frag .now) (a .new) (omega arith) (omega arith) in
     (better-higher _ _ _ (omega arith) (omega arith) (omega arith), omega arith)
 
--- src/choose.rt:28:9
+-- src/choose.rt:30:9
 returns-5 : tie.Need-returns-5
 returns-5 c =
     let a = c .before .before .before .before .before .before .before .args in
@@ -40,7 +40,7 @@ returns-5 c =
     let y = noted-level (a .n) (a .frag .now) (a .new) (omega arith) (omega arith) in
     (better-smaller _ _ _ (omega arith) (omega arith) (omega arith) (omega arith), omega arith)
 
--- src/choose.rt:9:1
+-- src/choose.rt:11:1
 returns-6 : tie.Need-returns-6
 returns-6 c =
     let a = c .before .before .before .before .before .before .before .args in

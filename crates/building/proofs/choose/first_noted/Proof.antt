@@ -1,49 +1,56 @@
 -- `building::choose::first_noted` meets its contract: no member below v has the note.
 -- Assumes nothing.
-use Rattle.building.specs.Laws.Choosing.{none-noted-more, NoneNoted, first-found, first-nowhere}
-use Prim.Native.Nat.{_+_, _*_, _≤_, _-_}
-use mathlib.Core.Logic.{inl, inr, ⊎-elim}
-use borrow.Author.Needs.{needs}
-use mathlib.Core.Path.{_≡_, sym, _∙_}
+use Prim.Native.Nat.{_-_, _+_, _*_}
+use mathlib.Core.Path.{_≡_}
 use native.Mathlib.Omega.{arith}
+use Rattle.building.specs.Laws.Members.{Along, along-first, along-next}
+use Rattle.building.specs.Laws.Choosing.{NoneNoted, none-noted-start, none-noted-next, first-found, first-nowhere}
+use borrow.Author.Needs.{needs}
 use Rattle.building.proofs.choose.first_noted.Statement.{statement}
 use Rattle.building.proofs.choose.first_noted.Tie as tie
 use Rattle.building.proofs.choose.first_noted.Reads as reads
 use Rattle.building.proofs.choose.first_noted.Lts as lts
-use Rattle.building.proofs.choose.is_member.Reads as is-member-reads
+use Rattle.building.proofs.members.next_member.Reads as next-member-reads
 
 abbrev Inv-loop : tie.InvT-loop
-Inv-loop frag n p note v₀ v = (v ≤ n) × NoneNoted n frag p note v
+Inv-loop frag n p note v₀ v = Along n p frag v × NoneNoted n frag p note v
 
 abbrev μ-loop : tie.MeasureT-loop
 μ-loop frag n p note v₀ v = n - v
 
--- src/choose.rt:63:5
+-- src/choose.rt:55:5
 loop-holds : tie.Need-loop-holds Inv-loop μ-loop
-loop-holds c = (omega arith, λ k l m e. omega arith)
+loop-holds c = let q = c .before .pre in (along-first q, none-noted-start _ _ _ q _)
 
--- src/choose.rt:65:16
-cast-if2 : tie.Need-cast-if2 Inv-loop μ-loop
-cast-if2 c = omega (arith, c .shared-slice-known2 .given (2 * c .before .before .before .before .before .before .args .n + c .before .before .before .before .loop .v))
+-- src/choose.rt:56:12
+cast-if1 : tie.Need-cast-if1 Inv-loop μ-loop
+cast-if1 c = omega (arith, c .shared-slice-known2 .given (2 * c .before .before .before .before .args .n + c .before .before .loop .v))
 
--- src/choose.rt:66:17
+-- src/choose.rt:57:13
 returns : tie.Need-returns Inv-loop μ-loop
-returns c = first-found _ _ _ _ _ (omega arith) (c .before .before .before .before .before .loop .inv .1) (sym (c .before .before .if1 .taken) ∙ c .before .before .before .is-member .ensures) (c .if2 .taken)
+returns c =
+    let l = c .before .before .before .loop in
+    first-found _ _ _ _ _ (omega arith) (l .inv .1) (l .inv .0 .member (omega arith)) (c .if1 .taken)
 
--- src/choose.rt:63:5
+-- src/choose.rt:59:9
+next-member-requires : tie.Need-next-member-requires Inv-loop μ-loop
+next-member-requires c κs = let q = c .before .before .before .before .before .pre in (q .wide, q .membered, omega arith)
+
+-- src/choose.rt:55:5
+loop-less : tie.Need-loop-less Inv-loop μ-loop
+loop-less c = omega (arith, c .next-member .ensures .on)
+
+-- src/choose.rt:55:5
 loop-again : tie.Need-loop-again Inv-loop μ-loop
 loop-again c =
-    let l = c .before .before .before .loop in
-    ⊎-elim
-    (λ w. (omega arith, none-noted-more _ _ _ _ _ (l .inv .1) (inr (w .2 .left))))
-    (λ w. (omega arith, none-noted-more _ _ _ _ _ (l .inv .1) (inl (sym (w .left) ∙ c .before .is-member .ensures))))
-    (c .if1 .came)
+    let l = c .before .before .before .before .loop in
+    (along-next (l .inv .0) (omega arith) (c .next-member .ensures), none-noted-next _ _ _ _ _ (l .inv .0) (omega arith) (c .next-member .ensures) _ (l .inv .1) (c .before .if1 .left))
 
--- src/choose.rt:58:1
+-- src/choose.rt:50:1
 returns-2 : tie.Need-returns-2 Inv-loop μ-loop
 returns-2 c =
     let l = c .before .loop in
-    let e : l .v ≡ c .before .before .before .args .n = omega arith in
+    let e : l .v ≡ c .before .before .before .args .n = omega (arith, l .inv .0 .within) in
     rw e (first-nowhere _ _ _ _ (rw e at (l .inv .1)))
 
 pub first-noted-spec : {M : Type 1} → statement M
@@ -53,14 +60,13 @@ first-noted-spec =
     Inv-loop
     μ-loop
     loop-holds
-    (λ c κs. search needs)
     (λ c. search needs)
     (λ c. search needs)
     (λ c. search needs)
     (λ c. search needs)
-    cast-if2
+    cast-if1
     returns
-    (λ c. search needs)
-    (λ c. search needs)
+    next-member-requires
+    loop-less
     loop-again
     returns-2)

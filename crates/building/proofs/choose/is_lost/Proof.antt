@@ -1,45 +1,50 @@
 -- `building::choose::is_lost` meets its contract: no member below v carries a mark.
 -- Assumes nothing.
-use Rattle.building.specs.Laws.Choosing.{none-marked-more, NoneMarked, lost-found, lost-nowhere}
-use mathlib.Core.Logic.{inl, inr, ⊎-elim}
-use borrow.Author.Needs.{needs}
-use Prim.Native.Nat.{_≤_, _-_}
-use mathlib.Core.Path.{_≡_, sym, _∙_}
+use Prim.Native.Nat.{_-_}
+use mathlib.Core.Path.{_≡_}
 use native.Mathlib.Omega.{arith}
+use Rattle.building.specs.Laws.Members.{Along, along-first, along-next}
+use Rattle.building.specs.Laws.Choosing.{NoneMarked, none-marked-start, none-marked-next, lost-found, lost-nowhere}
+use borrow.Author.Needs.{needs}
 use Rattle.building.proofs.choose.is_lost.Statement.{statement}
 use Rattle.building.proofs.choose.is_lost.Tie as tie
 use Rattle.building.proofs.choose.is_lost.Reads as reads
 use Rattle.building.proofs.choose.is_lost.Lts as lts
-use Rattle.building.proofs.choose.is_member.Reads as is-member-reads
+use Rattle.building.proofs.members.next_member.Reads as next-member-reads
 
 abbrev Inv-loop : tie.InvT-loop
-Inv-loop frag n p v₀ v = (v ≤ n) × NoneMarked n frag p v
+Inv-loop frag n p v₀ v = Along n p frag v × NoneMarked n frag p v
 
 abbrev μ-loop : tie.MeasureT-loop
 μ-loop frag n p v₀ v = n - v
 
--- src/choose.rt:91:5
+-- src/choose.rt:81:5
 loop-holds : tie.Need-loop-holds Inv-loop μ-loop
-loop-holds c = (omega arith, λ k l m. absurd (omega arith))
+loop-holds c = let q = c .before .pre in (along-first q, none-marked-start _ _ _ q)
 
--- src/choose.rt:94:17
+-- src/choose.rt:83:13
 returns : tie.Need-returns Inv-loop μ-loop
-returns c = lost-found _ _ _ _ (omega arith) (sym (c .before .before .if1 .taken) ∙ c .before .before .before .is-member .ensures) (c .if2 .taken)
+returns c = let l = c .before .before .before .loop in lost-found _ _ _ _ (omega arith) (l .inv .0 .member (omega arith)) (c .if1 .taken)
 
--- src/choose.rt:91:5
+-- src/choose.rt:85:9
+next-member-requires : tie.Need-next-member-requires Inv-loop μ-loop
+next-member-requires c κs = let q = c .before .before .before .before .before .pre in (q .wide, q .membered, omega arith)
+
+-- src/choose.rt:81:5
+loop-less : tie.Need-loop-less Inv-loop μ-loop
+loop-less c = omega (arith, c .next-member .ensures .on)
+
+-- src/choose.rt:81:5
 loop-again : tie.Need-loop-again Inv-loop μ-loop
 loop-again c =
-    let l = c .before .before .before .loop in
-    ⊎-elim
-    (λ w. (omega arith, none-marked-more _ _ _ _ (l .inv .1) (inr (w .2 .left))))
-    (λ w. (omega arith, none-marked-more _ _ _ _ (l .inv .1) (inl (sym (w .left) ∙ c .before .is-member .ensures))))
-    (c .if1 .came)
+    let l = c .before .before .before .before .loop in
+    (along-next (l .inv .0) (omega arith) (c .next-member .ensures), none-marked-next _ _ _ _ _ (l .inv .0) (omega arith) (c .next-member .ensures) (l .inv .1) (c .before .if1 .left))
 
--- src/choose.rt:86:1
+-- src/choose.rt:76:1
 returns-2 : tie.Need-returns-2 Inv-loop μ-loop
 returns-2 c =
     let l = c .before .loop in
-    let e : l .v ≡ c .before .before .before .args .n = omega arith in
+    let e : l .v ≡ c .before .before .before .args .n = omega (arith, l .inv .0 .within) in
     lost-nowhere _ _ _ (rw e at (l .inv .1))
 
 pub is-lost-spec : {M : Type 1} → statement M
@@ -49,13 +54,12 @@ is-lost-spec =
     Inv-loop
     μ-loop
     loop-holds
-    (λ c κs. search needs)
     (λ c. search needs)
     (λ c. search needs)
     (λ c. search needs)
     (λ c. search needs)
     returns
-    (λ c. search needs)
-    (λ c. search needs)
+    next-member-requires
+    loop-less
     loop-again
     returns-2)

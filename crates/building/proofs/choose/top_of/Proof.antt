@@ -9,11 +9,11 @@ use Rattle.building.proofs.choose.top_of.Reads as reads
 use Rattle.building.proofs.choose.top_of.Lts as lts
 use Rattle.building.proofs.choose.first_noted.Reads as first-noted-reads
 
--- src/choose.rt:80:9
+-- src/choose.rt:70:9
 returns : tie.Need-returns
 returns c = top-root _ _ _ _ (omega arith)
 
--- src/choose.rt:75:1
+-- src/choose.rt:65:1
 returns-2 : tie.Need-returns-2
 returns-2 c = top-first _ _ _ _ (omega arith) _ (c .first-noted .ensures)
 

@@ -18,19 +18,19 @@ Inv-loop frag n v₀ v = (v ≤ n) × ((k : ℕ) → k < v → getD frag (n + k)
 abbrev μ-loop : tie.MeasureT-loop
 μ-loop frag n v₀ v = n - v
 
--- src/closing.rt:64:5
+-- src/closing.rt:90:5
 loop-holds : tie.Need-loop-holds Inv-loop μ-loop
 loop-holds c = (omega arith, λ k l e. omega arith)
 
--- src/closing.rt:66:13
+-- src/closing.rt:92:13
 returns : tie.Need-returns Inv-loop μ-loop
 returns c = not-done _ _ _ (omega arith) (c .if1 .taken)
 
--- src/closing.rt:64:5
+-- src/closing.rt:90:5
 loop-again : tie.Need-loop-again Inv-loop μ-loop
 loop-again c = let l = c .before .before .before .loop in (omega arith, below-more _ _ (l .inv .1) (c .if1 .left))
 
--- src/closing.rt:59:1
+-- src/closing.rt:85:1
 returns-2 : tie.Need-returns-2 Inv-loop μ-loop
 returns-2 c =
     let l = c .before .loop in

@@ -12,25 +12,25 @@ use Rattle.building.proofs.closing.all_placed.Reads as all-placed-reads
 use Rattle.building.proofs.closing.end_pass.Reads as end-pass-reads
 use Rattle.building.proofs.head.head.Reads as head-reads
 
--- src/closing.rt:90:9
+-- src/closing.rt:106:9
 returns : tie.Need-returns
 returns c = rw (c .before .before .before .head .ensures .1) (close-head _ _ _ _ (c .before .before .before .head .ensures .0) (c .if1 .taken))
 
--- src/closing.rt:96:5
+-- src/closing.rt:112:5
 end-pass-requires : tie.Need-end-pass-requires
 end-pass-requires c κs =
     let d = c .before .before .before .before .before .head .ensures in
     let z = sym (d .0) ∙ c .before .before .if1 .left in
     rw (d .1) (close-ends _ _ _ z)
 
--- src/closing.rt:97:18
+-- src/closing.rt:113:19
 add-counted : tie.Need-add-counted
 add-counted c =
     let d = c .before .before .before .before .before .before .before .before .before .before .head .ensures in
     let z = sym (d .0) ∙ c .before .before .before .before .before .before .before .if1 .left in
     omega (arith, close-counts _ _ _ z)
 
--- src/closing.rt:98:8
+-- src/closing.rt:114:8
 all-placed-requires : tie.Need-all-placed-requires
 all-placed-requires c κs =
     let d = c .before .before .before .before .before .before .before .before .before .before .before .head .ensures in
@@ -38,14 +38,14 @@ all-placed-requires c κs =
     let e = close-ends _ _ _ z in
     record { few = e .wide .few; long = omega (arith, e .wide .long, c .before .before .before .before .before .end-pass .ensures .same-long) }
 
--- src/closing.rt:99:9
+-- src/closing.rt:115:9
 returns-2 : tie.Need-returns-2
 returns-2 c =
     let d = c .before .before .before .before .before .before .before .before .before .before .before .before .before .head .ensures in
     let z = sym (d .0) ∙ c .before .before .before .before .before .before .before .before .before .before .if1 .left in
     close-done _ _ _ z _ _ (rw (d .1) at (c .before .before .before .before .before .before .before .end-pass .ensures)) (sym (c .if2 .taken) ∙ c .before .all-placed .ensures)
 
--- src/closing.rt:85:1
+-- src/closing.rt:100:1
 returns-3 : tie.Need-returns-3
 returns-3 c =
     let d = c .before .before .before .before .before .before .before .before .before .before .before .before .before .head .ensures in

@@ -9,15 +9,15 @@ use Rattle.building.proofs.closing.is_due.Tie as tie
 use Rattle.building.proofs.closing.is_due.Reads as reads
 use Rattle.building.proofs.closing.is_due.Lts as lts
 
--- src/closing.rt:38:9
+-- src/closing.rt:42:9
 returns : tie.Need-returns
 returns c = due-not _ _ _ (omega arith) (c .if1 .taken)
 
--- src/closing.rt:40:5
+-- src/closing.rt:44:5
 cast-result : tie.Need-cast-result
 cast-result c = let a = c .before .before .before .args in omega (arith, c .shared-slice-known2 .given (7 * a .n + a .p))
 
--- src/closing.rt:33:1
+-- src/closing.rt:37:1
 returns-2 : tie.Need-returns-2
 returns-2 c = due-label _ _ _ (omega arith) (c .before .if1 .left)
 

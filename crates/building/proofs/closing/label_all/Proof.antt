@@ -1,8 +1,8 @@
 -- `building::closing::label_all` meets its contract: after v turns the fragments below v have their labels.
 -- Assumes nothing.
-use Prim.Native.Nat.{_<_, _≤_, _-_}
+use Prim.Native.Nat.{_≤_, _-_}
 use native.Mathlib.Omega.{arith}
-use Rattle.building.specs.Laws.Ending.{Labelling, labelling-none, labelling-points, label-small, labelling-more, labelling-all}
+use Rattle.building.specs.Laws.Ending.{Labelling, labelling-none, labelling-points, labelling-more, labelling-all}
 use borrow.Author.Needs.{needs}
 use Rattle.building.proofs.closing.label_all.Statement.{statement}
 use Rattle.building.proofs.closing.label_all.Tie as tie
@@ -26,21 +26,15 @@ find-requires c κs = let l = c .before .before .loop in (labelling-points _ _ _
 
 -- src/closing.rt:19:27
 cast-frag : tie.Need-cast-frag Inv-loop μ-loop
-cast-frag c =
-    let l = c .before .before .before .loop in
-    let k : l .v < c .before .before .before .before .before .args .n = omega arith in
-    omega (arith, label-small _ _ _ _ (c .before .before .before .before .before .pre) (l .inv .1) k _ (c .find .ensures), c .before .before .before .before .before .pre .gathered .pointing .few-fragments)
+cast-frag c = omega (arith, c .before .before .find .ensures .in-range, c .before .before .before .before .before .before .before .pre .gathered .pointing .few-fragments)
 
 -- src/closing.rt:19:9
 slice-write-frag : tie.Need-slice-write-frag Inv-loop μ-loop
-slice-write-frag c = let l = c .before .before .before .loop in omega (arith, l .inv .1 .same-long, c .before .before .before .before .before .pre .gathered .pointing .long)
+slice-write-frag c = omega (arith, c .before .before .find .ensures .kept .same-length, c .before .before .before .before .before .loop .inv .1 .same-long, c .before .before .before .before .before .before .before .pre .gathered .pointing .long)
 
 -- src/closing.rt:17:5
 loop-again : tie.Need-loop-again Inv-loop μ-loop
-loop-again c =
-    let l = c .before .before .before .loop in
-    let k : l .v < c .before .before .before .before .before .args .n = omega arith in
-    (omega arith, labelling-more _ _ _ _ (c .before .before .before .before .before .pre) (l .inv .1) k _ (c .find .ensures))
+loop-again c = (omega arith, labelling-more _ _ _ _ (c .before .before .before .before .before .before .before .pre) (c .before .before .before .before .before .loop .inv .1) (omega arith) _ _ (c .before .before .find .ensures))
 
 -- src/closing.rt:12:1
 returns : tie.Need-returns Inv-loop μ-loop

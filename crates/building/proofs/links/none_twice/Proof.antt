@@ -1,52 +1,97 @@
--- `building::links::none_twice` meets its contract: what is left to look at gives the answer.
+-- `building::links::none_twice` meets its contract: batch by batch, the words before it stand nowhere else.
 -- Assumes nothing.
-use Prim.Native.Nat.{_-_, _≤_}
-use mathlib.Core.List.{map}
-use mathlib.Core.Path.{_≡_, sym, ap, _∙_}
+use Prim.Native.Nat.{_-_}
+use mathlib.Core.Path.{ap, _∙_}
 use native.Mathlib.Omega.{arith}
+use borrow.Author.Tests.{not-true, not-false}
 use borrow.Author.Needs.{needs}
-use lib.ListN.{take}
-use Rattle.state.specs.Layout.{linkIn}
-use Rattle.state.specs.Test.{noneTwice}
-use Rattle.building.specs.Laws.Check.{left, left-whole, twice-more, twice-hit, twice-none}
+use lib.ListN.{length}
+use Rattle.building.specs.Laws.Index.{indexed-open}
+use Rattle.building.specs.Laws.Batches.{twice-wider, noted-twice, batchable, Compared, compared-none, compared-all, compared-twice, compared-more}
 use Rattle.building.proofs.links.none_twice.Statement.{statement}
 use Rattle.building.proofs.links.none_twice.Tie as tie
-use Rattle.building.proofs.links.none_twice.Reads as reads
-use Rattle.building.proofs.links.none_twice.Lts as lts
-use Rattle.building.proofs.links.is_among.Reads as is-among-reads
-use Rattle.building.proofs.words.high_end.Reads as high-end-reads
-use Rattle.building.proofs.words.low_end.Reads as low-end-reads
 
 abbrev Inv-loop : tie.InvT-loop
-Inv-loop held count i₀ i = (i ≤ count) × (noneTwice (left held count i) ≡ noneTwice (map linkIn (take count held)))
+Inv-loop frag₀ held n count base₀ frag base = Compared n count base frag₀ frag held
 
 abbrev μ-loop : tie.MeasureT-loop
-μ-loop held count i₀ i = count - i
+μ-loop frag₀ held n count base₀ frag base = count - base
 
 loop-holds : tie.Need-loop-holds Inv-loop μ-loop
-loop-holds c = let a = c .before .args in (omega arith, ap (λ l. noneTwice l) (left-whole (a .held .now) (a .count)))
+loop-holds c = compared-none (c .before .before .pre)
 
-low-end-requires : tie.Need-low-end-requires Inv-loop μ-loop
-low-end-requires c κs = omega (arith, c .before .before .before .pre)
+mul-batch-end : tie.Need-mul-batch-end Inv-loop μ-loop
+mul-batch-end c = omega (arith, c .before .loop .inv .comparable .few-fragments)
 
-high-end-requires : tie.Need-high-end-requires Inv-loop μ-loop
-high-end-requires c κs = omega (arith, c .before .before .before .before .pre)
+mul-note-batch : tie.Need-mul-note-batch Inv-loop μ-loop
+mul-note-batch c = omega (arith, c .before .before .before .loop .inv .comparable .few-fragments)
 
-is-among-requires : tie.Need-is-among-requires Inv-loop μ-loop
-is-among-requires c κs = (omega arith, c .before .before .before .before .before .pre)
+mul-note-batch-2 : tie.Need-mul-note-batch-2 Inv-loop μ-loop
+mul-note-batch-2 c = omega (arith, c .before .before .before .loop .inv .comparable .few-fragments)
+
+note-batch-requires : tie.Need-note-batch-requires Inv-loop μ-loop
+note-batch-requires c κs =
+    let l = c .before .before .before .loop in
+    let e = c .before .batch-end .ensures in
+    batchable (l .inv .comparable) (l .base) _ (e .1 (omega (arith, l .inv .comparable .inside (l .base) (c .before .before .loop-test .taken)))) (e .0)
+
+same-length : tie.Need-same-length Inv-loop μ-loop
+same-length c = c .before .before .before .note-batch .ensures .outside .same-long ∙ ap length (c .before .before .before .before .before .before .before .loop .inv .same)
 
 returns : tie.Need-returns Inv-loop μ-loop
 returns c =
-    let l = c .before .before .before .before .before .loop in
-    twice-hit _ _ (l .i) (omega arith) (c .before .before .before .before .before .before .before .pre) _ _ (c .before .before .before .low-end .ensures) (c .before .before .high-end .ensures) (sym (c .if1 .taken) ∙ c .before .is-among .ensures) ∙ l .inv .1
+    let e = c .before .before .before .note-batch .ensures in
+    compared-twice (c .before .before .before .before .before .before .before .loop .inv) (e .outside) (twice-wider (c .before .before .before .before .before .batch-end .ensures .0) (e .twice (c .if1 .taken)))
+
+mul-none-noted : tie.Need-mul-none-noted Inv-loop μ-loop
+mul-none-noted c = omega (arith, c .before .before .before .before .before .before .before .before .loop .inv .comparable .few-fragments)
+
+mul-none-noted-2 : tie.Need-mul-none-noted-2 Inv-loop μ-loop
+mul-none-noted-2 c = omega (arith, c .before .before .before .before .before .before .before .before .loop .inv .comparable .few-fragments)
+
+none-noted-requires : tie.Need-none-noted-requires Inv-loop μ-loop
+none-noted-requires c κs =
+    let l = c .before .before .before .before .before .before .before .before .loop in
+    let (a, k, B) = c .before .before .before .before .note-batch .ensures .noted (c .before .if1 .left) in
+    (indexed-open (omega (arith, l .inv .comparable .inside (l .base) (c .before .before .before .before .before .before .before .loop-test .taken))) (omega (arith, l .inv .comparable .few-fragments)) (B .indexed), B .indexed, omega (arith, c .before .before .before .before .before .before .batch-end .ensures .0), l .inv .comparable .there)
+
+same-length-2 : tie.Need-same-length-2 Inv-loop μ-loop
+same-length-2 c = c .before .before .before .before .before .before .note-batch .ensures .outside .same-long ∙ ap length (c .before .before .before .before .before .before .before .before .before .before .loop .inv .same)
+
+returns-2 : tie.Need-returns-2 Inv-loop μ-loop
+returns-2 c =
+    let e = c .before .before .before .before .before .before .note-batch .ensures in
+    let (a, k, B) = e .noted (c .before .before .before .if1 .left) in
+    let (q, l, g, m) = c .before .none-noted .ensures .one (not-true _ (c .if2 .taken)) in
+    compared-twice (c .before .before .before .before .before .before .before .before .before .before .loop .inv) (e .outside) (noted-twice B q l g m)
+
+mul-wipe : tie.Need-mul-wipe Inv-loop μ-loop
+mul-wipe c = omega (arith, c .before .before .before .before .before .before .before .before .before .before .before .loop .inv .comparable .few-fragments)
+
+mul-wipe-2 : tie.Need-mul-wipe-2 Inv-loop μ-loop
+mul-wipe-2 c = omega (arith, c .before .before .before .before .before .before .before .before .before .before .before .loop .inv .comparable .few-fragments)
+
+wipe-requires : tie.Need-wipe-requires Inv-loop μ-loop
+wipe-requires c κs =
+    let l = c .before .before .before .before .before .before .before .before .before .before .before .loop .inv .comparable in
+    (omega arith, omega (arith, l .long, c .before .before .before .before .before .before .before .note-batch .ensures .outside .same-long))
+
+loop-less : tie.Need-loop-less Inv-loop μ-loop
+loop-less c =
+    let (a, k, B) = c .before .before .before .before .before .before .before .before .before .before .note-batch .ensures .noted (c .before .before .before .before .before .before .before .if1 .left) in
+    omega (arith, c .before .before .before .before .before .before .before .before .before .before .before .before .before .loop-test .taken)
 
 loop-again : tie.Need-loop-again Inv-loop μ-loop
 loop-again c =
-    let l = c .before .before .before .before .before .loop in
-    (omega arith, twice-more _ _ (l .i) (omega arith) (c .before .before .before .before .before .before .before .pre) _ _ (c .before .before .before .low-end .ensures) (c .before .before .high-end .ensures) (sym (c .if1 .left) ∙ c .before .is-among .ensures) ∙ l .inv .1)
+    let e = c .before .before .before .before .before .before .before .before .before .before .note-batch .ensures in
+    let (a, k, B) = e .noted (c .before .before .before .before .before .before .before .if1 .left) in
+    compared-more (c .before .before .before .before .before .before .before .before .before .before .before .before .before .before .loop .inv) (e .outside) B (omega (arith, c .before .before .before .before .before .before .before .before .before .before .before .before .batch-end .ensures .0)) (c .before .before .before .before .before .none-noted .ensures .none (not-false _ (c .before .before .before .before .if2 .left))) _ (c .before .before .wipe .ensures)
 
-returns-2 : tie.Need-returns-2 Inv-loop μ-loop
-returns-2 c = let l = c .before .loop in twice-none _ _ (l .i) (omega arith) ∙ l .inv .1
+same-length-3 : tie.Need-same-length-3 Inv-loop μ-loop
+same-length-3 c = ap length (c .before .loop .inv .same)
+
+returns-3 : tie.Need-returns-3 Inv-loop μ-loop
+returns-3 c = compared-all (c .before .loop .inv) (omega arith)
 
 pub none-twice-spec : {M : Type 1} → statement M
 none-twice-spec =
@@ -55,12 +100,22 @@ none-twice-spec =
     Inv-loop
     μ-loop
     loop-holds
-    low-end-requires
-    high-end-requires
-    (λ c. search needs)
-    is-among-requires
+    mul-batch-end
+    (λ c κs. search needs)
+    mul-note-batch
+    mul-note-batch-2
+    note-batch-requires
+    same-length
     returns
-    (λ c. search needs)
-    (λ c. search needs)
+    mul-none-noted
+    mul-none-noted-2
+    none-noted-requires
+    same-length-2
+    returns-2
+    mul-wipe
+    mul-wipe-2
+    wipe-requires
+    loop-less
     loop-again
-    returns-2)
+    same-length-3
+    returns-3)

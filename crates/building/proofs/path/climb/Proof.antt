@@ -1,6 +1,7 @@
 -- `building::path::climb` meets its contract: what is left of the path keeps the rest.
 -- Assumes nothing.
-use Rattle.building.specs.Laws.Saving.{wide-by, Climbing, climbing-starts, climbing-up, climbing-ends}
+use Rattle.building.specs.Laws.Frames.{wide-by}
+use Rattle.building.specs.Laws.Copying.{keepable, Climbing, climbing-starts, climbing-up, climbing-ends}
 use Rattle.state.specs.Laws.Layout.{level-word}
 use Rattle.state.specs.Layout.{bare}
 use mathlib.Core.List.{[]}
@@ -10,7 +11,7 @@ use Rattle.building.proofs.path.climb.Statement.{statement}
 use Rattle.building.proofs.path.climb.Tie as tie
 use Rattle.building.proofs.path.climb.Reads as reads
 use Rattle.building.proofs.path.climb.Lts as lts
-use Rattle.building.proofs.path.keep.Reads as keep-reads
+use Rattle.building.proofs.path.copy.Reads as copy-reads
 
 abbrev Inv-loop : tie.InvT-loop
 Inv-loop frag₀ n top deepest v₀ left₀ frag v left = Climbing n top deepest frag₀ frag v left
@@ -18,33 +19,33 @@ Inv-loop frag₀ n top deepest v₀ left₀ frag v left = Climbing n top deepest
 abbrev μ-loop : tie.MeasureT-loop
 μ-loop frag₀ n top deepest v₀ left₀ frag v left = left
 
--- src/path.rt:35:20
+-- src/path.rt:39:20
 sub-left : tie.Need-sub-left Inv-loop μ-loop
 sub-left c = let a = c .before .before .before .args in omega (arith, level-word (bare (a .n)) (a .frag .now) [] (a .deepest) (omega arith), level-word (bare (a .n)) (a .frag .now) [] (a .top) (omega arith))
 
--- src/path.rt:36:5
+-- src/path.rt:40:5
 loop-holds : tie.Need-loop-holds Inv-loop μ-loop
 loop-holds c = climbing-starts _ _ _ _ (c .before .before .before .pre)
 
--- src/path.rt:37:9
-keep-requires : tie.Need-keep-requires Inv-loop μ-loop
-keep-requires c κs = let l = c .before .before .loop in (wide-by (l .inv .beside .same-long) (c .before .before .before .before .before .before .pre .wide), l .inv .in-range)
+-- src/path.rt:41:9
+copy-requires : tie.Need-copy-requires Inv-loop μ-loop
+copy-requires c κs = let l = c .before .before .loop in (keepable (wide-by (l .inv .beside .same-long) (c .before .before .before .before .before .before .pre .wide)), l .inv .in-range)
 
--- src/path.rt:38:13
+-- src/path.rt:42:13
 cast-v : tie.Need-cast-v Inv-loop μ-loop
 cast-v c = omega (arith, c .slice-known5 .given (c .before .before .before .before .before .before .loop .v))
 
--- src/path.rt:36:5
+-- src/path.rt:40:5
 loop-again : tie.Need-loop-again Inv-loop μ-loop
-loop-again c = let l = c .before .before .before .before .before .before .loop in rw (c .before .before .before .keep .ensures) (climbing-up _ _ _ _ _ _ _ (l .inv) (c .before .before .before .before .before .before .before .before .before .before .pre .standing) (omega arith))
+loop-again c = let l = c .before .before .before .before .before .before .loop in rw (c .before .before .before .copy .ensures) (climbing-up _ _ _ _ _ _ _ (l .inv) (c .before .before .before .before .before .before .before .before .before .before .pre .standing) (omega arith))
 
--- src/path.rt:41:5
-keep-requires-2 : tie.Need-keep-requires-2 Inv-loop μ-loop
-keep-requires-2 c κs = let l = c .before .before .loop in (wide-by (l .inv .beside .same-long) (c .before .before .before .before .before .before .pre .wide), l .inv .in-range)
+-- src/path.rt:45:5
+copy-requires-2 : tie.Need-copy-requires-2 Inv-loop μ-loop
+copy-requires-2 c κs = let l = c .before .before .loop in (keepable (wide-by (l .inv .beside .same-long) (c .before .before .before .before .before .before .pre .wide)), l .inv .in-range)
 
--- src/path.rt:30:1
+-- src/path.rt:34:1
 returns : tie.Need-returns Inv-loop μ-loop
-returns c = let l = c .before .before .before .before .before .loop in rw (c .before .before .keep2 .ensures) (climbing-ends _ _ _ _ _ _ _ (l .inv) (omega arith))
+returns c = let l = c .before .before .before .before .before .loop in rw (c .before .before .copy2 .ensures) (climbing-ends _ _ _ _ _ _ _ (l .inv) (omega arith))
 
 pub climb-spec : {M : Type 1} → statement M
 climb-spec =
@@ -60,13 +61,15 @@ climb-spec =
     (λ c. search needs)
     sub-left
     loop-holds
-    keep-requires
+    (λ c. search needs)
+    copy-requires
     (λ c. search needs)
     (λ c. search needs)
     cast-v
     (λ c. search needs)
     (λ c. search needs)
     loop-again
-    keep-requires-2
+    (λ c. search needs)
+    copy-requires-2
     (λ c. search needs)
     returns)

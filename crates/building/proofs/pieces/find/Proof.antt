@@ -1,45 +1,47 @@
 -- `building::pieces::find` meets its contract: the way down stays in the piece, and each step goes to a smaller fragment.
 -- Assumes nothing.
-use Prim.Native.Nat.{_<_}
 use mathlib.Core.Path.{refl}
 use native.Mathlib.Omega.{arith}
 use borrow.Author.Needs.{needs}
-use lib.ListN.{getD}
-use Rattle.building.specs.Pieces.{Pointing}
-use Rattle.building.specs.Laws.Pieces.{Same, same-here, same-next, same-end}
+use Rattle.building.specs.Laws.Pieces.{Finding, finding-starts, finding-ends, finding-less, finding-next, finding-down, finding-on}
 use Rattle.building.proofs.pieces.find.Statement.{statement}
 use Rattle.building.proofs.pieces.find.Tie as tie
-use Rattle.building.proofs.pieces.find.Reads as reads
-use Rattle.building.proofs.pieces.find.Lts as lts
 
 abbrev Inv-loop : tie.InvT-loop
-Inv-loop frag n v u₀ u = Pointing n frag × (u < n) × Same n frag v u
+Inv-loop frag₀ n v u₀ frag u = Finding n v frag₀ u frag
 
 abbrev μ-loop : tie.MeasureT-loop
-μ-loop frag n v u₀ u = u
+μ-loop frag₀ n v u₀ frag u = u
 
 loop-holds : tie.Need-loop-holds Inv-loop μ-loop
-loop-holds c = (c .pre .0, c .pre .1, same-here _ _ _)
+loop-holds c = finding-starts (c .pre .0) (c .pre .1)
 
-cast-u : tie.Need-cast-u Inv-loop μ-loop
-cast-u c =
-    let l = c .before .before .before .loop in
-    omega (arith, l .inv .0 .down (l .u) (l .inv .1))
+cast-p : tie.Need-cast-p Inv-loop μ-loop
+cast-p c = let l = c .before .before .before .loop in omega (arith, l .inv .pointing .down (l .u) (l .inv .in-range))
 
-loop-less : tie.Need-loop-less Inv-loop μ-loop
-loop-less c =
-    let l = c .before .before .before .loop in
-    omega (arith, l .inv .0 .down (l .u) (l .inv .1))
+add-up : tie.Need-add-up Inv-loop μ-loop
+add-up c = omega (arith, finding-less (c .before .before .before .loop .inv) _ refl (c .before .if1 .taken))
 
-loop-again : tie.Need-loop-again Inv-loop μ-loop
-loop-again c =
-    let l = c .before .before .before .loop in
-    (l .inv .0, omega (arith, l .inv .0 .down (l .u) (l .inv .1)), same-next _ _ _ (l .u) _ (l .inv .1) (omega arith) (l .inv .2))
+mul-up-2 : tie.Need-mul-up-2 Inv-loop μ-loop
+mul-up-2 c = omega (arith, finding-less (c .before .before .before .loop .inv) _ refl (c .before .if1 .taken))
+
+slice-read-up : tie.Need-slice-read-up Inv-loop μ-loop
+slice-read-up c = omega (arith, finding-less (c .before .before .before .before .loop .inv) _ refl (c .before .before .if1 .taken))
 
 returns : tie.Need-returns Inv-loop μ-loop
-returns c =
-    let l = c .before .before .loop in
-    same-end _ _ _ (l .u) (l .inv .1) (omega arith) (l .inv .2)
+returns c = finding-ends (finding-next (c .before .before .before .before .before .loop .inv) _ refl (c .before .before .before .if1 .taken)) (omega arith)
+
+cast-u : tie.Need-cast-u Inv-loop μ-loop
+cast-u c = omega (arith, finding-down (c .before .before .before .before .before .loop .inv) _ refl (c .before .before .before .if1 .taken) _ refl (c .if2 .left), finding-next (c .before .before .before .before .before .loop .inv) _ refl (c .before .before .before .if1 .taken))
+
+loop-less : tie.Need-loop-less Inv-loop μ-loop
+loop-less c = omega (arith, finding-less (c .before .before .before .before .before .loop .inv) _ refl (c .before .before .before .if1 .taken), finding-down (c .before .before .before .before .before .loop .inv) _ refl (c .before .before .before .if1 .taken) _ refl (c .if2 .left))
+
+loop-again : tie.Need-loop-again Inv-loop μ-loop
+loop-again c = finding-on (c .before .before .before .before .before .loop .inv) _ refl (c .before .before .before .if1 .taken) _ refl (c .if2 .left)
+
+returns-2 : tie.Need-returns-2 Inv-loop μ-loop
+returns-2 c = finding-ends (c .before .before .loop .inv) (omega arith)
 
 pub find-spec : {M : Type 1} → statement M
 find-spec =
@@ -56,8 +58,21 @@ find-spec =
     (λ c. search needs)
     (λ c. search needs)
     (λ c. search needs)
+    cast-p
+    (λ c. search needs)
+    (λ c. search needs)
+    add-up
+    mul-up-2
+    slice-read-up
+    (λ c. search needs)
+    returns
+    (λ c. search needs)
+    (λ c. search needs)
+    (λ c. search needs)
+    (λ c. search needs)
     cast-u
     (λ c. search needs)
     loop-less
     loop-again
-    returns)
+    (λ c. search needs)
+    returns-2)

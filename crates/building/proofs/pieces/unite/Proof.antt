@@ -1,7 +1,6 @@
 -- `building::pieces::unite` meets its contract: both words of p grow by those of q, and q points to p.
 -- Assumes nothing.
-use mathlib.Core.Path.{_≡_, refl, sym, ap, _∙_}
-use native.Mathlib.Omega.{arith}
+use mathlib.Core.Path.{refl, _∙_}
 use lib.ListN.{length-set}
 use Rattle.building.specs.Laws.Pieces.{united, unite-second}
 use borrow.Author.Needs.{needs}

@@ -17,12 +17,12 @@ same-length c = search needs
 
 returns : tie.Need-returns
 returns c =
-    let p = c .before .before .before .before .before .before .before .before .pre in
+    let p = c .before .before .before .before .before .before .before .before .before .pre in
     build-skip (p .0) (p .1) _ _ (c .before .before .before .before .rank-at .ensures .says) (c .before .rank-at2 .ensures .says) (c .before .before .before .if1 .taken) (c .if2 .taken)
 
 note-link-requires : tie.Need-note-link-requires
 note-link-requires c κs =
-    let p = c .before .before .before .before .before .before .before .before .before .pre in
+    let p = c .before .before .before .before .before .before .before .before .before .before .pre in
     notable (p .0) _ _ (p .1 .second) (p .1 .first)
 
 same-length-2 : tie.Need-same-length-2
@@ -30,7 +30,7 @@ same-length-2 c = search needs
 
 returns-2 : tie.Need-returns-2
 returns-2 c =
-    let p = c .before .before .before .before .before .before .before .before .before .before .before .before .pre in
+    let p = c .before .before .before .before .before .before .before .before .before .before .before .before .before .pre in
     build-note-second (p .0) (p .1) _ _ (c .before .before .before .before .before .before .before .before .rank-at .ensures .says) (c .before .before .before .before .before .rank-at2 .ensures .says) (c .before .before .before .before .before .before .before .if1 .taken) (omega arith) _ (c .before .before .note-link .ensures)
 
 rank-at-requires-3 : tie.Need-rank-at-requires-3
@@ -38,7 +38,7 @@ rank-at-requires-3 c κs = search needs
 
 note-link-requires-2 : tie.Need-note-link-requires-2
 note-link-requires-2 c κs =
-    let p = c .before .before .before .before .before .before .before .before .before .pre in
+    let p = c .before .before .before .before .before .before .before .before .before .before .pre in
     notable (p .0) _ _ (p .1 .first) (p .1 .second)
 
 same-length-3 : tie.Need-same-length-3
@@ -46,12 +46,12 @@ same-length-3 c = search needs
 
 returns-3 : tie.Need-returns-3
 returns-3 c =
-    let p = c .before .before .before .before .before .before .before .before .before .before .before .before .pre in
+    let p = c .before .before .before .before .before .before .before .before .before .before .before .before .before .pre in
     build-note-first (p .0) (p .1) _ _ (c .before .before .before .before .before .before .before .before .rank-at .ensures .says) (c .before .before .before .before .before .rank-at3 .ensures .says) (omega arith) (c .before .before .before .before .if3 .taken) _ (c .before .before .note-link2 .ensures)
 
 hold-link-requires : tie.Need-hold-link-requires
 hold-link-requires c κs =
-    let p = c .before .before .before .before .before .before .before .before .before .before .pre in
+    let p = c .before .before .before .before .before .before .before .before .before .before .before .pre in
     build-between (p .0) (p .1) _ _ (c .before .before .before .before .before .before .rank-at .ensures .says) (c .before .before .before .rank-at3 .ensures .says) (omega arith) (omega arith)
 
 same-length-4 : tie.Need-same-length-4
@@ -62,7 +62,7 @@ same-length-5 c = search needs
 
 returns-4 : tie.Need-returns-4
 returns-4 c =
-    let p = c .before .before .before .before .before .before .before .before .before .before .before .before .before .before .before .pre in
+    let p = c .before .before .before .before .before .before .before .before .before .before .before .before .before .before .before .before .pre in
     build-hold (p .0) (p .1) _ _ (c .before .before .before .before .before .before .before .before .before .before .before .rank-at .ensures .says) (c .before .before .before .before .before .before .before .before .rank-at3 .ensures .says) (omega arith) (omega arith) (c .before .before .before .before .hold-link .ensures)
 
 pub build-link-spec : {M : Type 1} → statement M

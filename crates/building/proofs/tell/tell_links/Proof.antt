@@ -30,11 +30,11 @@ link-at-requires c κs = search needs
 enum-known-a : tie.Need-enum-known-a Inv-loop μ-loop
 enum-known-a c = search needs
 
-cast-build-link : tie.Need-cast-build-link Inv-loop μ-loop
-cast-build-link c = search needs
+cast-a : tie.Need-cast-a Inv-loop μ-loop
+cast-a c = search needs
 
-cast-build-link-2 : tie.Need-cast-build-link-2 Inv-loop μ-loop
-cast-build-link-2 c = search needs
+cast-b : tie.Need-cast-b Inv-loop μ-loop
+cast-b c = search needs
 
 build-link-requires : tie.Need-build-link-requires Inv-loop μ-loop
 build-link-requires c κs =
@@ -81,8 +81,8 @@ tell-links-spec =
     cast-link-at
     link-at-requires
     enum-known-a
-    cast-build-link
-    cast-build-link-2
+    cast-a
+    cast-b
     build-link-requires
     add-told
     loop-less

@@ -1,49 +1,65 @@
--- `building::walk::next_of` meets its contract: after i turns it has the smallest unplaced neighbour by the first i links.
+-- `building::walk::next_of` meets its contract: a smaller neighbour, else a greater one, else none.
 -- Assumes nothing.
-use Rattle.building.specs.Laws.Walking.{Next, next-none-yet, next-turn, next-found}
-use Rattle.building.specs.Telling.{heldTables}
+use Rattle.building.specs.Laws.Seeking.{start-next, seek-end, seeks-smaller, seeks-greater, seeks-none}
+use Prim.Native.Nat.{suc, _+_, _*_}
+use mathlib.Core.Path.{refl}
 use native.Mathlib.Omega.{arith}
-use mathlib.Core.Path.{_≡_}
-use Prim.Native.Nat.{_≤_, _-_}
 use borrow.Author.Needs.{needs}
 use Rattle.building.proofs.walk.next_of.Statement.{statement}
 use Rattle.building.proofs.walk.next_of.Tie as tie
 use Rattle.building.proofs.walk.next_of.Reads as reads
 use Rattle.building.proofs.walk.next_of.Lts as lts
-use Rattle.building.proofs.walk.nearer.Reads as nearer-reads
-use Rattle.building.proofs.walk.other_end.Reads as other-end-reads
+use Rattle.building.proofs.walk.greater_at.Reads as greater-at-reads
+use Rattle.building.proofs.walk.keep_cursors.Reads as keep-cursors-reads
+use Rattle.building.proofs.walk.next_greater.Reads as next-greater-reads
+use Rattle.building.proofs.walk.next_smaller.Reads as next-smaller-reads
 
-abbrev Inv-loop : tie.InvT-loop
-Inv-loop frag held n count v best₀ i₀ best i = (i ≤ count) × Next n (heldTables n count frag held) held v i best
+returns : tie.Need-returns
+returns c = seeks-smaller (c .before .before .before .before .before .pre) _ (c .before .next-smaller .ensures) _ (c .if1 .taken) refl
 
-abbrev μ-loop : tie.MeasureT-loop
-μ-loop frag held n count v best₀ i₀ best i = count - i
+cast-end : tie.Need-cast-end
+cast-end c = let a = c .before .before .before .before .before .before .before .before .args in omega (arith, start-next (a .n) (a .frag .now) (a .v), seek-end (c .before .before .before .before .before .before .before .before .pre))
 
--- src/walk.rt:46:5
-loop-holds : tie.Need-loop-holds Inv-loop μ-loop
-loop-holds c = (omega arith, next-none-yet _ _ _ _)
+cast-keep-cursors : tie.Need-cast-keep-cursors
+cast-keep-cursors c = let a = c .before .before .before .before .before .before .before .before .before .args in omega (arith, c .before .before .next-greater .ensures .behind .to, c .before .before .before .before .before .before .before .before .slice-known .given (4 * a .n + suc (a .v)))
 
--- src/walk.rt:46:5
-loop-again : tie.Need-loop-again Inv-loop μ-loop
-loop-again c = let l = c .before .before .before .loop in (omega arith, next-turn _ _ _ _ _ _ _ _ _ (omega arith) (l .inv .1) (c .before .other-end .ensures) (c .nearer .ensures))
+greater-at-requires : tie.Need-greater-at-requires
+greater-at-requires c κs = let a = c .before .before .before .before .before .before .before .before .before .before .before .before .before .args in omega (arith, start-next (a .n) (a .frag .now) (a .v), seek-end (c .before .before .before .before .before .before .before .before .before .before .before .before .before .pre))
 
--- src/walk.rt:40:1
-returns : tie.Need-returns Inv-loop μ-loop
-returns c =
-    let l = c .before .loop in
-    let e : l .i ≡ c .before .before .before .before .args .count = omega arith in
-    next-found _ _ _ _ _ _ (rw e at (l .inv .1))
+returns-2 : tie.Need-returns-2
+returns-2 c =
+    let a = c .before .before .before .before .before .before .before .before .before .before .before .before .before .before .args in
+    seeks-greater (c .before .before .before .before .before .before .before .before .before .before .before .before .before .before .pre) _ (c .before .before .before .before .before .before .before .before .before .before .next-smaller .ensures) _ (omega arith) _ (c .before .before .before .before .before .before .before .next-greater .ensures) (c .before .before .before .before .keep-cursors .ensures) (omega (arith, start-next (a .n) (a .frag .now) (a .v))) _ (c .greater-at .ensures)
+
+returns-3 : tie.Need-returns-3
+returns-3 c =
+    let a = c .before .before .before .before .before .before .before .before .before .before .before .before .before .args in
+    seeks-none (c .before .before .before .before .before .before .before .before .before .before .before .before .before .pre) _ (c .before .before .before .before .before .before .before .before .before .next-smaller .ensures) _ (omega arith) _ (c .before .before .before .before .before .before .next-greater .ensures) (c .before .before .before .keep-cursors .ensures) (omega (arith, start-next (a .n) (a .frag .now) (a .v)))
 
 pub next-of-spec : {M : Type 1} → statement M
 next-of-spec =
     tie.close
     (tie.spec
-    Inv-loop
-    μ-loop
-    loop-holds
-    (λ c κs. search needs)
     (λ c κs. search needs)
     (λ c. search needs)
     (λ c. search needs)
-    loop-again
-    returns)
+    (λ c. search needs)
+    (λ c. search needs)
+    (λ c. search needs)
+    (λ c. search needs)
+    (λ c. search needs)
+    returns
+    (λ c κs. search needs)
+    (λ c. search needs)
+    (λ c. search needs)
+    (λ c. search needs)
+    (λ c. search needs)
+    (λ c. search needs)
+    cast-end
+    cast-keep-cursors
+    (λ c κs. search needs)
+    greater-at-requires
+    (λ c. search needs)
+    returns-2
+    (λ c. search needs)
+    returns-3)

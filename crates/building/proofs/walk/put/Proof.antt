@@ -1,6 +1,6 @@
 -- `building::walk::put` meets its contract: two stores.
 -- Assumes nothing.
-use Rattle.building.specs.Closing.{putAt}
+use Rattle.building.specs.Walk.{putAt}
 use lib.ListN.{length-set}
 use native.Mathlib.Omega.{arith}
 use mathlib.Core.Path.{refl}

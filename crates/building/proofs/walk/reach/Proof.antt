@@ -1,29 +1,26 @@
--- `building::walk::reach` meets its contract: one fragment more is placed, and the deeper of two is told.
+-- `building::walk::reach` meets its contract: one fragment more is placed and entered, and the deeper of two is told.
 -- Assumes nothing.
 use Rattle.building.specs.Laws.Walking.{deeper-new, deeper-old, reached-put}
 use Rattle.state.specs.Laws.Layout.{level-word}
 use Rattle.state.specs.Layout.{bare}
 use native.Mathlib.Omega.{arith}
 use mathlib.Core.List.{[]}
-use mathlib.Core.Path.{_∙_}
 use borrow.Author.Needs.{needs}
 use Rattle.building.proofs.walk.reach.Statement.{statement}
 use Rattle.building.proofs.walk.reach.Tie as tie
 use Rattle.building.proofs.walk.reach.Reads as reads
 use Rattle.building.proofs.walk.reach.Lts as lts
+use Rattle.building.proofs.walk.enter.Reads as enter-reads
 use Rattle.building.proofs.walk.put.Reads as put-reads
 
--- src/walk.rt:71:13
 add-r-2 : tie.Need-add-r-2
 add-r-2 c = let a = c .before .before .args in omega (arith, level-word (bare (a .n)) (a .frag .now) [] (a .at) (omega arith))
 
--- src/walk.rt:75:9
 returns : tie.Need-returns
-returns c = (deeper-new _ _ _ _ _ (c .if1 .taken), c .before .before .before .put .ensures ∙ reached-put _ _ _ _)
+returns c = (deeper-new _ _ _ _ _ (c .if1 .taken), reached-put _ _ _ _ _ _ (c .before .before .before .before .before .before .before .put .ensures) (c .before .before .before .enter .ensures))
 
--- src/walk.rt:67:1
 returns-2 : tie.Need-returns-2
-returns-2 c = (deeper-old _ _ _ _ _ (c .if1 .left), c .before .before .before .put .ensures ∙ reached-put _ _ _ _)
+returns-2 c = (deeper-old _ _ _ _ _ (c .if1 .left), reached-put _ _ _ _ _ _ (c .before .before .before .before .before .before .before .put .ensures) (c .before .before .before .enter .ensures))
 
 pub reach-spec : {M : Type 1} → statement M
 reach-spec =
@@ -36,6 +33,7 @@ reach-spec =
     (λ c. search needs)
     (λ c. search needs)
     (λ c. search needs)
+    (λ c κs. search needs)
     (λ c κs. search needs)
     (λ c. search needs)
     returns

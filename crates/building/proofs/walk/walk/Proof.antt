@@ -1,58 +1,69 @@
 -- `building::walk::walk` meets its contract: the steps that are left make the rest of the walk, which stands still at its rest.
 -- Assumes nothing.
-use Rattle.building.specs.Laws.Walking.{going-reachable, Going, going-starts, going-on, going-back, going-rests, going-ends}
 use borrow.Author.Needs.{needs}
+use Rattle.building.specs.Laws.Walking.{Going, Goes, going-starts, going-seekable, going-seeks, going-reachable, going-on, going-back, going-rests, going-ends}
 use native.Mathlib.Omega.{arith}
-use Rattle.state.specs.Laws.Layout.{parent-word}
-use Rattle.building.specs.Telling.{holds}
 use Rattle.building.proofs.walk.walk.Statement.{statement}
 use Rattle.building.proofs.walk.walk.Tie as tie
 use Rattle.building.proofs.walk.walk.Reads as reads
 use Rattle.building.proofs.walk.walk.Lts as lts
+use Rattle.building.proofs.walk.enter.Reads as enter-reads
 use Rattle.building.proofs.walk.next_of.Reads as next-of-reads
 use Rattle.building.proofs.walk.reach.Reads as reach-reads
 
 abbrev Inv-loop : tie.InvT-loop
-Inv-loop frag₀ held n count top left₀ at₀ deepest₀ frag left at deepest = Going n count top frag₀ held frag left at deepest
+Inv-loop frag₀ held n count top left₀ at₀ deepest₀ frag left at deepest = Goes n count top frag₀ held frag left at deepest
 
 abbrev μ-loop : tie.MeasureT-loop
 μ-loop frag₀ held n count top left₀ at₀ deepest₀ frag left at deepest = left
 
--- src/walk.rt:98:5
+-- The walk on its way along some links.
+here : (c : tie.At-loop Inv-loop μ-loop) → let a = c .before .before .before .before .before .before .before .args in let l = c .loop in Going (a .n) (a .count) (a .top) (a .frag .now) (c .before .before .before .before .before .before .before .pre .told) (a .held .now) (l .frag) (l .left) (l .at) (l .deepest)
+here c = c .loop .inv _ _ (c .before .before .before .enter .ensures) (c .before .before .before .before .before .before .before .pre .walkable)
+
 loop-holds : tie.Need-loop-holds Inv-loop μ-loop
-loop-holds c = going-starts _ _ _ _ _ (c .before .before .pre)
+loop-holds c f₀ h₀ e W = going-starts W _ e
 
--- src/walk.rt:102:13
+next-of-requires : tie.Need-next-of-requires Inv-loop μ-loop
+next-of-requires c κs = going-seekable (here (c .before .before))
+
 reach-requires : tie.Need-reach-requires Inv-loop μ-loop
-reach-requires c κs =
-    let l = c .before .before .before .before .before .loop in
-    going-reachable _ _ _ _ _ _ _ _ _ (l .inv) (record { few = c .before .before .before .before .before .before .before .before .pre .linking .wide .few; long = omega (arith, l .inv .same-long, c .before .before .before .before .before .before .before .before .pre .linking .wide .long) }) _ (c .before .if1 .taken)
+reach-requires c κs = going-reachable (going-seeks (here (c .before .before .before .before .before .before .before)) _ _ (c .before .before .before .before .next-of .ensures) .0) _ (c .before .if1 .taken)
 
--- src/walk.rt:98:5
 loop-again : tie.Need-loop-again Inv-loop μ-loop
-loop-again c =
-    let l = c .before .before .before .before .before .before .before .before .loop in
-    going-on _ _ _ _ _ _ _ _ _ (l .inv) (c .before .before .before .before .before .before .before .loop-test .taken) _ (c .before .before .before .before .before .next-of .ensures) (c .before .before .before .before .if1 .taken) _ _ (c .before .before .reach .ensures .0) (c .before .before .reach .ensures .1)
+loop-again c f₀ h₀ e W =
+    let (G, q) = going-seeks (c .before .before .before .before .before .before .before .before .before .before .loop .inv f₀ h₀ e W) _ _ (c .before .before .before .before .before .before .before .next-of .ensures) in
+    going-on G (c .before .before .before .before .before .before .before .before .before .loop-test .taken) _ q (c .before .before .before .before .if1 .taken) _ _ (c .before .before .reach .ensures .0) (c .before .before .reach .ensures .1)
 
--- src/walk.rt:106:17
+same-length : tie.Need-same-length Inv-loop μ-loop
+same-length c = going-seeks (here (c .before .before .before .before .before .before .before)) _ _ (c .before .before .before .before .next-of .ensures) .0 .frame .same-long
+
 returns : tie.Need-returns Inv-loop μ-loop
-returns c =
-    let l = c .before .before .before .before .before .loop in
-    going-rests _ _ _ _ _ _ _ _ _ (l .inv) (omega arith) (c .if2 .taken)
+returns c h₀ W =
+    let (G, q) = going-seeks (c .before .before .before .before .before .before .before .loop .inv _ h₀ (c .before .before .before .before .before .before .before .before .before .before .enter .ensures) W) _ _ (c .before .before .before .before .next-of .ensures) in
+    going-rests G (omega (arith, q)) (c .if2 .taken)
 
--- src/walk.rt:108:18
+mul-at : tie.Need-mul-at Inv-loop μ-loop
+mul-at c = omega (arith, going-seekable (here (c .before .before .before .before .before .before .before)) .in-range, here (c .before .before .before .before .before .before .before) .arranged .few)
+
+slice-read-at : tie.Need-slice-read-at Inv-loop μ-loop
+slice-read-at c =
+    let G = going-seeks (here (c .before .before .before .before .before .before .before .before)) _ _ (c .before .before .before .before .before .next-of .ensures) .0 in
+    omega (arith, going-seekable G .in-range, G .arranged .long)
+
 cast-at : tie.Need-cast-at Inv-loop μ-loop
-cast-at c = let l = c .before .before .before .before .before .before .loop in omega (arith, c .slice-known3 .given (l .at))
+cast-at c = omega (arith, c .slice-known5 .given (c .before .before .before .before .before .before .before .before .loop .at))
 
--- src/walk.rt:98:5
 loop-again-2 : tie.Need-loop-again-2 Inv-loop μ-loop
-loop-again-2 c =
-    let l = c .before .before .before .before .before .before .loop in
-    going-back _ _ _ _ _ _ _ _ _ (l .inv) (c .before .before .before .before .before .loop-test .taken) (omega arith) (c .before .if2 .left) _ (parent-word (holds _ _) _ _ _ (l .inv .at-in))
+loop-again-2 c f₀ h₀ e W =
+    let (G, q) = going-seeks (c .before .before .before .before .before .before .before .before .loop .inv f₀ h₀ e W) _ _ (c .before .before .before .before .before .next-of .ensures) in
+    going-back G (c .before .before .before .before .before .before .before .loop-test .taken) (omega (arith, q)) (c .before .if2 .left)
 
--- src/walk.rt:91:1
+same-length-2 : tie.Need-same-length-2 Inv-loop μ-loop
+same-length-2 c = here (c .before) .frame .same-long
+
 returns-2 : tie.Need-returns-2 Inv-loop μ-loop
-returns-2 c = let l = c .before .loop in going-ends _ _ _ _ _ _ _ _ _ (l .inv) (omega arith)
+returns-2 c h₀ W = going-ends (c .before .loop .inv _ h₀ (c .before .before .before .before .enter .ensures) W) (omega arith)
 
 pub walk-spec : {M : Type 1} → statement M
 walk-spec =
@@ -60,19 +71,20 @@ walk-spec =
     (tie.spec
     Inv-loop
     μ-loop
+    (λ c κs. search needs)
     (λ c. search needs)
     loop-holds
     (λ c. search needs)
-    (λ c κs. search needs)
+    next-of-requires
     reach-requires
     (λ c. search needs)
     loop-again
-    (λ c. search needs)
+    same-length
     returns
-    (λ c. search needs)
-    (λ c. search needs)
+    mul-at
+    slice-read-at
     cast-at
     (λ c. search needs)
     loop-again-2
-    (λ c. search needs)
+    same-length-2
     returns-2)

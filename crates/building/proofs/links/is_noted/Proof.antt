@@ -1,0 +1,21 @@
+-- `building::links::is_noted` meets its contract: the way of the word ends at it, or it is not noted.
+-- Assumes nothing.
+use native.Mathlib.Omega.{arith}
+use borrow.Author.Needs.{needs}
+use Rattle.building.specs.Laws.Batches.{recalls-empty, recalls-word}
+use Rattle.building.proofs.links.is_noted.Statement.{statement}
+use Rattle.building.proofs.links.is_noted.Tie as tie
+
+look-requires : tie.Need-look-requires
+look-requires c κs = c .before .pre .0
+
+returns : tie.Need-returns
+returns c = recalls-empty (c .before .before .before .pre .1) (c .before .look .ensures) (λ l. absurd (omega (arith, c .if1 .taken)))
+
+returns-2 : tie.Need-returns-2
+returns-2 c = recalls-word (c .before .before .before .before .pre .1) (c .before .before .look .ensures) (omega (arith, c .before .before .look .ensures .in-range, c .before .if1 .left))
+
+pub is-noted-spec : {M : Type 1} → statement M
+is-noted-spec =
+    tie.close
+    (tie.spec look-requires returns (λ c. search needs) (λ c. search needs) (λ c. search needs) returns-2)

@@ -1,0 +1,106 @@
+-- `building::links::note_batch` meets its contract: the words so far are noted, and each finds an empty slot.
+-- Assumes nothing.
+use Prim.Native.Nat.{_-_, _<_, _≤_}
+use native.Mathlib.Omega.{arith}
+use borrow.Author.Needs.{needs}
+use Rattle.building.specs.Batches.{Batch}
+use Rattle.building.specs.Index.{Outside}
+use Rattle.building.specs.Laws.Index.{indexed-open, outside-none, outside-set}
+use Rattle.building.specs.Laws.Batches.{batch-none, batch-full, batch-twice, batch-more, batches-stop, batches-twice}
+use Rattle.building.proofs.links.note_batch.Statement.{statement}
+use Rattle.building.proofs.links.note_batch.Tie as tie
+
+abbrev Inv-loop : tie.InvT-loop
+Inv-loop frag₀ held at size from to i₀ frag i = (from ≤ i) × (i ≤ to) × Batch at size from i frag held × Outside at size frag₀ frag
+
+abbrev μ-loop : tie.MeasureT-loop
+μ-loop frag₀ held at size from to i₀ frag i = to - i
+
+loop-holds : tie.Need-loop-holds Inv-loop μ-loop
+loop-holds c = (omega arith, omega (arith, c .before .before .pre .some), batch-none (c .before .before .pre), outside-none)
+
+mul-w : tie.Need-mul-w Inv-loop μ-loop
+mul-w c = omega (arith, c .before .before .before .before .pre .there)
+
+shared-slice-read-w : tie.Need-shared-slice-read-w Inv-loop μ-loop
+shared-slice-read-w c = omega (arith, c .before .before .before .before .before .pre .there)
+
+look-requires : tie.Need-look-requires Inv-loop μ-loop
+look-requires c κs = indexed-open (c .before .before .before .before .before .before .pre .slots .some) (c .before .before .before .before .before .before .pre .slots .few-slots) (c .before .before .before .loop .inv .2 .indexed)
+
+same-length : tie.Need-same-length Inv-loop μ-loop
+same-length c = c .before .before .before .before .before .loop .inv .3 .same-long
+
+returns : tie.Need-returns Inv-loop μ-loop
+returns c =
+    let l = c .before .before .before .before .before .loop in
+    batches-stop (l .inv .3) (l .inv .2) (batch-full (l .inv .2) (c .before .look .ensures) (c .before .before .before .before .before .before .before .before .pre .slots .some) (c .if1 .taken)) (l .inv .1)
+
+add-if2 : tie.Need-add-if2 Inv-loop μ-loop
+add-if2 c = omega (arith, c .before .before .before .before .before .loop .inv .2 .indexed .long, c .before .look .ensures .in-range, c .before .before .before .before .before .loop .inv .3 .same-long)
+
+mul-if2 : tie.Need-mul-if2 Inv-loop μ-loop
+mul-if2 c = omega (arith, c .before .before .before .before .before .loop .inv .2 .indexed .long, c .before .look .ensures .in-range, c .before .before .before .before .before .loop .inv .3 .same-long)
+
+slice-read-if2 : tie.Need-slice-read-if2 Inv-loop μ-loop
+slice-read-if2 c = omega (arith, c .before .before .before .before .before .before .loop .inv .2 .indexed .long, c .before .before .look .ensures .in-range, c .before .if1 .left)
+
+same-length-2 : tie.Need-same-length-2 Inv-loop μ-loop
+same-length-2 c = c .before .before .before .before .before .before .before .loop .inv .3 .same-long
+
+returns-2 : tie.Need-returns-2 Inv-loop μ-loop
+returns-2 c =
+    let l = c .before .before .before .before .before .before .before .loop in
+    batches-twice (l .inv .3) (batch-twice (l .inv .2) (c .before .before .before .look .ensures) (omega (arith, c .before .before .before .look .ensures .in-range, c .before .before .if1 .left)) _ (omega arith) (c .if2 .taken))
+
+add-frag : tie.Need-add-frag Inv-loop μ-loop
+add-frag c = omega (arith, c .before .before .before .before .before .before .before .loop .inv .2 .indexed .long, c .before .before .before .look .ensures .in-range, c .before .before .before .before .before .before .before .loop .inv .3 .same-long)
+
+mul-frag : tie.Need-mul-frag Inv-loop μ-loop
+mul-frag c = omega (arith, c .before .before .before .before .before .before .before .loop .inv .2 .indexed .long, c .before .before .before .look .ensures .in-range, c .before .before .before .before .before .before .before .loop .inv .3 .same-long)
+
+slice-write-frag : tie.Need-slice-write-frag Inv-loop μ-loop
+slice-write-frag c = omega (arith, c .before .before .before .before .before .before .before .loop .inv .2 .indexed .long, c .before .before .before .look .ensures .in-range, c .before .before .if1 .left)
+
+loop-again : tie.Need-loop-again Inv-loop μ-loop
+loop-again c =
+    let l = c .before .before .before .before .before .before .before .loop in
+    let p = c .before .before .before .before .before .before .before .before .before .before .pre in
+    let s = c .before .before .before .look in
+    let r : s .result < c .before .before .before .before .before .before .before .before .before .before .args .size = omega (arith, s .ensures .in-range, c .before .before .if1 .left) in
+    let k = p .small (l .i) (omega arith) in
+    (omega arith, omega arith, batch-more (l .inv .2) (s .ensures) r (l .inv .0) (k .0) (k .1) (omega (arith, c .if2 .left)), outside-set (s .result) _ r (l .inv .3))
+
+same-length-3 : tie.Need-same-length-3 Inv-loop μ-loop
+same-length-3 c = c .before .loop .inv .3 .same-long
+
+returns-3 : tie.Need-returns-3 Inv-loop μ-loop
+returns-3 c =
+    let l = c .before .loop in
+    batches-stop (l .inv .3) (l .inv .2) (omega (arith, c .before .before .before .before .pre .some)) (l .inv .1)
+
+pub note-batch-spec : {M : Type 1} → statement M
+note-batch-spec =
+    tie.close
+    (tie.spec
+    Inv-loop
+    μ-loop
+    loop-holds
+    mul-w
+    shared-slice-read-w
+    look-requires
+    same-length
+    returns
+    add-if2
+    mul-if2
+    slice-read-if2
+    same-length-2
+    returns-2
+    add-frag
+    mul-frag
+    slice-write-frag
+    (λ c. search needs)
+    (λ c. search needs)
+    loop-again
+    same-length-3
+    returns-3)

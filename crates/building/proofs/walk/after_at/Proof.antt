@@ -1,0 +1,14 @@
+-- `building::walk::after_at` meets its contract: the next smaller neighbour stands in the high part of the word.
+-- Assumes nothing.
+use native.Mathlib.Omega.{arith}
+use borrow.Author.Needs.{needs}
+use Rattle.building.proofs.walk.after_at.Statement.{statement}
+use Rattle.building.proofs.walk.after_at.Tie as tie
+use Rattle.building.proofs.walk.after_at.Reads as reads
+use Rattle.building.proofs.walk.after_at.Lts as lts
+
+cast-result : tie.Need-cast-result
+cast-result c = omega (arith, c .shared-slice-known .given (c .before .args .i))
+
+pub after-at-spec : {M : Type 1} → statement M
+after-at-spec = tie.close (tie.spec (λ c. search needs) (λ c. search needs) cast-result (λ c. search needs))

@@ -1,0 +1,257 @@
+-- The links noted in scratch: none, one more, one more held, and what is read of them.
+-- Assumes nothing.
+use Prim.Native.Nat.{ℕ, _+_, _-_, _*_, _%_, _≤_, _<_, min, max}
+use mathlib.Core.Path.{_≡_, refl, sym, ap, subst, _∙_}
+use mathlib.Core.Bool.{true}
+use mathlib.Core.List.{List, [], _∷_, _++_, append-assoc}
+use mathlib.Core.Logic.{_≢_, inl, inr}
+use native.Mathlib.Omega.{arith}
+use native.Mathlib.Decide.{ℕ-discrete, decLt}
+use borrow.Author.Tests.{le-leb, lt-leb}
+use lib.Dec.{leb}
+use lib.ListN.{length, getD, set, take, drop, replicate, length-set, length-append, length-take, length-replicate, List·getD-append, getD-replicate}
+use lib.Seq.{getD-drop, getD-set-same, getD-set-other, take-set-le, drop-set-lt, take-at, drop-at, length-take-le, getD-append-add}
+use Rattle.base.specs.Truth.{T-ext, T-true}
+use Rattle.base.specs.Answer.{gives}
+use Rattle.lists.specs.List.{readLink}
+use Rattle.lists.specs.Link.{Accepted, link-accepted}
+use Rattle.rules.specs.Links.{Link, between, linked}
+use Rattle.rules.specs.Laws.Links.{between-here, linked-turn, append-left, snoc-cases, snoc-last}
+use Rattle.state.specs.Layout.{words, linkIn, wordOf}
+use Rattle.state.specs.Laws.Words.{link-word, word-small, word-some}
+use Rattle.state.specs.Call.{fragmentsMost}
+use Rattle.building.specs.Pieces.{wiped}
+use Rattle.building.specs.Index.{flag, Place}
+use Rattle.building.specs.Pieces.{Ends}
+use Rattle.building.specs.Noted.{slotAt, Noted, Apart, Askable, Flags, Learnable, Flaggable, Stands, Fresh}
+use Rattle.building.specs.Laws.Scratch.{wiped-length}
+use Rattle.building.specs.Laws.Index.{indexed-none, indexed-same, not-noted, one-slot, set-indexed}
+use Rattle.building.specs.Laws.Batches.{one-word}
+
+pub noted-none : (n : ℕ) (held : List Link) (f : List ℕ) → words * n ≤ length f → ((i : ℕ) → 7 * n ≤ i → i < words * n → getD f i 0 ≡ 0) → Noted n held f
+noted-none n held f l z =
+    let empty : (i : ℕ) → i < 9 * n → slotAt n f i ≡ 0 = λ i h. z (7 * n + i) (omega arith) (omega arith) in
+    record {
+      indexed = indexed-none (omega arith) empty;
+      sorted = λ i h d. absurd (d (empty i h));
+      truth = λ i h d. absurd (d (empty i h));
+    }
+
+pub noted-keeps : (n : ℕ) (held : List Link) (f f′ : List ℕ) → length f′ ≡ length f → drop (7 * n) f′ ≡ drop (7 * n) f → Noted n held f → Noted n held f′
+noted-keeps n held f f′ l e N =
+    let same : (i : ℕ) → slotAt n f′ i ≡ slotAt n f i = λ i. sym (getD-drop (7 * n) f′ i 0) ∙ ap (λ x. getD x i 0) e ∙ getD-drop (7 * n) f i 0 in
+    record {
+      indexed = indexed-same l (λ i h. same i) (N .indexed);
+      sorted = λ i h d. rw (same i) (N .sorted i h (rw (← same i) d));
+      truth = λ i h d. rw (same i) (N .truth i h (rw (← same i) d));
+    }
+
+-- What is written.
+pub apart-none : {n : ℕ} {f : List ℕ} → Apart n f f
+apart-none = record { same-long = refl; before = refl; past = refl }
+
+pub apart-set : {n : ℕ} {f : List ℕ} (i x : ℕ) → i < 9 * n → Apart n f (set f (7 * n + i) x)
+apart-set {n} {f} i x h = record {
+  same-long = length-set f (7 * n + i) x;
+  before = take-set-le (7 * n) f (7 * n + i) x (omega arith);
+  past = drop-set-lt (words * n) f (7 * n + i) x (omega arith);
+}
+
+pub apart-then : {n : ℕ} {f g h : List ℕ} → Apart n f g → Apart n g h → Apart n f h
+apart-then a b = record { same-long = b .same-long ∙ a .same-long; before = b .before ∙ a .before; past = b .past ∙ a .past }
+
+-- The word of a link between two fragments, the smaller end first.
+module _ {n a b : ℕ} (few : n ≤ fragmentsMost) (E : Ends n a b) where
+  pub word-ends : linkIn (wordOf (min a b, max a b)) ≡ (min a b, max a b)
+  word-ends = link-word (min a b) (max a b) (omega (arith, E .first, E .second))
+
+  pub word-sorted : linkIn (wordOf (min a b, max a b)) .0 < linkIn (wordOf (min a b, max a b)) .1
+  word-sorted = rw word-ends (omega (arith, E .differ))
+
+  pub word-flagless : wordOf (min a b, max a b) < flag
+  word-flagless = word-small (min a b) (max a b) (omega (arith, E .first, E .second)) (omega (arith, E .first, E .second))
+
+  pub word-there : wordOf (min a b, max a b) ≢ 0
+  word-there z = omega (arith, word-some (min a b) (max a b) (omega (arith, E .differ)))
+
+-- A link has no direction.
+pub linked-either : (held : List Link) (a b : ℕ) → linked held (min a b) (max a b) ≡ linked held a b
+linked-either held a b = elim (decLt a b) [
+  | yes l ↦
+      let p : min a b ≡ a = omega arith in
+      let q : max a b ≡ b = omega arith in
+      rw (p, q)
+  | no l ↦
+      let p : min a b ≡ b = omega arith in
+      let q : max a b ≡ a = omega arith in
+      rw (p, q) (T-ext (linked held b a) (linked held a b) (linked-turn held b a) (linked-turn held a b))
+]
+
+-- Another link held changes nothing for a link noted.
+snoc-other : (held : List Link) (v w : ℕ) → linkIn v .0 < linkIn v .1 → linkIn w .0 < linkIn w .1 → v ≢ w
+    → linked held (linkIn v .0) (linkIn v .1) ≡ linked (held ++ (linkIn w ∷ [])) (linkIn v .0) (linkIn v .1)
+snoc-other held v w a b d =
+    T-ext (linked held (linkIn v .0) (linkIn v .1)) (linked (held ++ (linkIn w ∷ [])) (linkIn v .0) (linkIn v .1))
+    (append-left held (linkIn w ∷ []) (linkIn v .0) (linkIn v .1))
+    (λ t. elim (snoc-cases held (linkIn w) (linkIn v .0) (linkIn v .1) t) [
+      | inl s ↦ s
+      | inr s ↦ absurd (d (sym (one-word w v b a s)))
+    ])
+
+snoc-own : (held : List Link) (w : ℕ) → true ≡ linked (held ++ (linkIn w ∷ [])) (linkIn w .0) (linkIn w .1)
+snoc-own held w = sym (T-true _ (snoc-last held (linkIn w) (linkIn w .0) (linkIn w .1) (between-here (linkIn w .0) (linkIn w .1))))
+
+-- The word w, by the slot i where its way ends.
+module _ {n w i : ℕ} {f : List ℕ} (P : Place (7 * n) (9 * n) f w i) where
+  pub stands-word : i < 9 * n → Stands n w f (slotAt n f i)
+  stands-word h held N d = rw (← P .ends h d) (N .truth i h d)
+
+  module _ (own : linkIn w .0 < linkIn w .1) where
+    -- It is not noted: nothing is marked.
+    pub flags-none : (i < 9 * n → slotAt n f i ≡ 0) → Flags n (linkIn w) f f
+    flags-none z = (
+      (λ held N. record {
+        indexed = N .indexed;
+        sorted = N .sorted;
+        truth = λ j h d. N .truth j h d ∙ snoc-other held (slotAt n f j % flag) w (N .sorted j h d) own (λ e. not-noted (N .indexed) P z (record { slot = j; in-range = h; some = d; is = e }));
+      }),
+      apart-none,
+    )
+
+    module _ (h : i < 9 * n) (d : slotAt n f i ≢ 0) where
+      -- Another slot has another word.
+      others : {held : List Link} → Noted n held f → (j : ℕ) → j < 9 * n → slotAt n f j ≢ 0 → j ≢ i → slotAt n f j % flag ≢ w
+      others N j l g q e = q (one-slot (N .indexed) j i l h g d (e ∙ sym (P .ends h d)))
+
+      pub flags-had : flag ≤ slotAt n f i → Flags n (linkIn w) f f
+      flags-had b = (
+        (λ held N. record {
+          indexed = N .indexed;
+          sorted = N .sorted;
+          truth = λ j l g. elim (ℕ-discrete j i) [
+            | yes e ↦ rw (e, P .ends h d, le-leb flag (slotAt n f i) b) (snoc-own held w)
+            | no q ↦ N .truth j l g ∙ snoc-other held (slotAt n f j % flag) w (N .sorted j l g) own (others N j l g q)
+          ];
+        }),
+        apart-none,
+      )
+
+      pub flags-now : slotAt n f i < flag → Flags n (linkIn w) f (set f (7 * n + i) (slotAt n f i + flag))
+      flags-now b =
+          let x = slotAt n f i + flag in
+          let bare : x % flag ≡ w = (let e : x % flag ≡ slotAt n f i % flag = omega arith in e ∙ P .ends h d) in (
+            (λ held N.
+                let slot : getD (set f (7 * n + i) x) (7 * n + i) 0 ≡ x = getD-set-same f (7 * n + i) x 0 (omega (arith, N .indexed .long)) in
+                let other : (j : ℕ) → j ≢ i → getD (set f (7 * n + i) x) (7 * n + j) 0 ≡ slotAt n f j = λ j q. getD-set-other f (7 * n + i) (7 * n + j) x 0 (λ e. q (omega arith)) in
+                record {
+                  indexed = set-indexed (N .indexed) i x h (λ z. omega arith) (λ g. bare ∙ sym (P .ends h d)) (rw bare (P .way));
+                  sorted = λ j l g. elim (ℕ-discrete j i) [
+                    | yes e ↦ rw (e, slot, bare) own
+                    | no q ↦ rw (other j q) (N .sorted j l (rw (← other j q) g))
+                  ];
+                  truth = λ j l g. elim (ℕ-discrete j i) [
+                    | yes e ↦ rw (e, slot, bare, le-leb flag x (omega arith)) (snoc-own held w)
+                    | no q ↦
+                        let k : slotAt n f j ≢ 0 = rw (← other j q) g in
+                        rw (other j q) (N .truth j l k ∙ snoc-other held (slotAt n f j % flag) w (N .sorted j l k) own (others N j l k q))
+                  ];
+                }),
+            apart-set i x h,
+          )
+
+    -- It is noted, and not held.
+    pub noted-more : Noted n [] f → i < 9 * n → slotAt n f i ≡ 0 → w ≢ 0 → w < flag → Noted n [] (set f (7 * n + i) w)
+    unfolding linked
+    noted-more N h z d b =
+        let bare : w % flag ≡ w = omega arith in
+        let slot : getD (set f (7 * n + i) w) (7 * n + i) 0 ≡ w = getD-set-same f (7 * n + i) w 0 (omega (arith, N .indexed .long)) in
+        let other : (j : ℕ) → j ≢ i → getD (set f (7 * n + i) w) (7 * n + j) 0 ≡ slotAt n f j = λ j q. getD-set-other f (7 * n + i) (7 * n + j) w 0 (λ e. q (omega arith)) in
+        record {
+          indexed = set-indexed (N .indexed) i w h d (λ g. absurd (g z)) (rw bare (P .way));
+          sorted = λ j l g. elim (ℕ-discrete j i) [
+            | yes e ↦ rw (e, slot, bare) own
+            | no q ↦ rw (other j q) (N .sorted j l (rw (← other j q) g))
+          ];
+          truth = λ j l g. elim (ℕ-discrete j i) [
+            | yes e ↦ rw (e, slot) (lt-leb flag w b)
+            | no q ↦ rw (other j q) (N .truth j l (rw (← other j q) g))
+          ];
+        }
+
+-- Sections 7 to 15 cleared.
+module _ (from to : ℕ) (l : List ℕ) (b : from ≤ to) (g : to ≤ length l) where
+  cleared-at : (i : ℕ) → from ≤ i → i < to → getD (wiped from to l) i 0 ≡ 0
+  unfolding wiped
+  cleared-at i p q =
+      let r : List ℕ = replicate (to - from) 0 in
+      let m = length-take-le from l (omega arith) in
+      let e : i ≡ length (take from l) + (i - from) = omega arith in
+      ap (λ j. getD (take from l ++ (r ++ drop to l)) j 0) e
+      ∙ getD-append-add (take from l) (r ++ drop to l) (i - from) 0
+      ∙ List·getD-append r (drop to l) 0 (i - from) (omega (arith, length-replicate {A = ℕ} (to - from) 0))
+      ∙ getD-replicate (to - from) (i - from) 0 0 (omega arith)
+
+  cleared-front : take from (wiped from to l) ≡ take from l
+  unfolding wiped
+  cleared-front = take-at (take from l) _ from (length-take-le from l (omega arith))
+
+  cleared-past : drop to (wiped from to l) ≡ drop to l
+  unfolding wiped
+  cleared-past =
+      let r : List ℕ = replicate (to - from) 0 in
+      ap (λ x. drop to x) (sym (append-assoc (take from l) r (drop to l)))
+      ∙ drop-at (take from l ++ r) (drop to l) to (simp (length-append, length-take, length-replicate) (omega arith))
+
+module _ {n : ℕ} (f : List ℕ) {f′ : List ℕ} (long : words * n ≤ length f) (e : f′ ≡ wiped (7 * n) (16 * n) f) where
+  pub cleared-apart : Apart n f f′
+  cleared-apart = rw e (record {
+    same-long = wiped-length (7 * n) (16 * n) f (omega arith) long;
+    before = cleared-front (7 * n) (16 * n) f (omega arith) long;
+    past = cleared-past (7 * n) (16 * n) f (omega arith) long;
+  })
+
+  pub cleared-fresh : 0 < n → n ≤ fragmentsMost → Fresh n f′
+  cleared-fresh s few =
+      let l : words * n ≤ length f′ = omega (arith, cleared-apart .same-long) in
+      record { some = s; few-fragments = few; long = l; noted = noted-none n [] f′ l (λ i p q. rw e (cleared-at (7 * n) (16 * n) f (omega arith) long i p q)) }
+
+-- A link of a block that was read.
+module _ (n told : ℕ) (block : List ℕ) (at a b next : ℕ) (e : readLink n told block at ≡ gives (record { link = (a, b); next = next })) where
+  pub told-link : Accepted n told block at (record { link = (a, b); next = next })
+  told-link = link-accepted n told block at _ e
+
+  pub told-ends : Ends n a b
+  told-ends = record { first = told-link .first; second = told-link .second; differ = told-link .differ }
+
+-- The word w of the link between a and b.
+module _ {n a b : ℕ} (w : ℕ) (e : w ≡ wordOf (min a b, max a b)) where
+  pub word-flaggable : {f : List ℕ} → Learnable n a b f → Flaggable n w f
+  word-flaggable N = rw e (record {
+    some = N .some;
+    few-fragments = N .few-fragments;
+    sorted = word-sorted (N .few-fragments) (N .ends);
+    held = N .held;
+    noted = N .noted;
+  })
+
+  pub word-flags : {f f′ : List ℕ} → n ≤ fragmentsMost → Ends n a b → Flags n (linkIn w) f f′ → Flags n (min a b, max a b) f f′
+  word-flags {f} {f′} few E M =
+      let q : linkIn w ≡ (min a b, max a b) = ap linkIn e ∙ word-ends few E in
+      ((λ held N. subst (λ l. Noted n (held ++ (l ∷ [])) f′) q (M .0 held N)), M .1)
+
+  pub fresh-more : {f : List ℕ} {i : ℕ} → Fresh n f → Ends n a b → Place (7 * n) (9 * n) f w i → i < 9 * n → slotAt n f i ≡ 0 → Fresh n (set f (7 * n + i) w)
+  fresh-more {f} {i} F E P h z =
+      let few = F .few-fragments in
+      let own : linkIn w .0 < linkIn w .1 = rw e (word-sorted few E) in
+      let d : w ≢ 0 = rw e (word-there few E) in
+      let l : w < flag = rw e (word-flagless few E) in
+      record { some = F .some; few-fragments = few; long = simp length-set (F .long); noted = noted-more P own (F .noted) h z d l }
+
+  -- What stands for it tells whether it is held.
+  pub stands-held : {f : List ℕ} {held : List Link} {x : ℕ} → n ≤ fragmentsMost → Ends n a b → Noted n held f → Stands n w f x → x ≢ 0 → leb flag x ≡ linked held a b
+  stands-held {f} {held} {x} few E N S d =
+      let q : linkIn w ≡ (min a b, max a b) = ap linkIn e ∙ word-ends few E in
+      S held N d ∙ ap (λ l. linked held (l .0) (l .1)) q ∙ linked-either held a b
+
+pub asked-learnable : {n count a b : ℕ} {f h : List ℕ} → Askable n count a b f h → Learnable n a b f
+asked-learnable A = record { some = A .some; few-fragments = A .few-fragments; long = A .long; ends = A .ends; held = _; noted = A .noted }

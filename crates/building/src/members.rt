@@ -1,0 +1,31 @@
+// The members of each piece, chained by rising number in section 8. Labels stand in section 7.
+ghost use Prim.Native.Nat.{_<_};
+ghost use Rattle.building.specs.Closing.{Membered, Chainable, Chains, Follows};
+ghost use Rattle.building.specs.Walk.{Wide};
+use crate::tables::wide;
+
+// From the last fragment to the first, with the first member seen so far of each piece in section 9.
+pub(crate) fn chain_members(frag: &mut [u32], n: usize)
+    requires { ⌜ Chainable n (now frag) ⌝ }
+    ensures { λ r. ⌜ Chains n (now (frag .entry)) (now (frag .exit)) ⌝ }
+{
+    let mut v = n;
+    while v > 0 {
+        v -= 1;
+        let p = wide(frag[7 * n + v]);
+        frag[8 * n + v] = frag[9 * n + p];
+        frag[9 * n + p] = v as u32 + 1;
+    }
+}
+
+// The next member of v's piece; n behind the last.
+pub(crate) fn next_member(frag: &[u32], n: usize, v: usize) -> usize
+    requires { ⌜ Wide n (now frag) × Membered n (now frag) × (v < n) ⌝ }
+    ensures { λ r. ⌜ Follows n v (now (frag .entry)) r ⌝ }
+{
+    let next = wide(frag[8 * n + v]);
+    if next == 0 {
+        return n;
+    }
+    next - 1
+}

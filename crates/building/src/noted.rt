@@ -1,0 +1,169 @@
+// Links of a block noted in sections 7 to 15 while the block is told, each with whether it is held: a link told again is not looked for in the held table.
+ghost use Prim.Native.Nat.{_*_, _≤_, min, max};
+ghost use mathlib.Core.List.{map};
+ghost use lib.ListN.{length, take};
+ghost use Rattle.state.specs.Layout.{linkIn};
+ghost use Rattle.building.specs.Pieces.{Ends};
+ghost use Rattle.building.specs.Noted.{Noted, Apart, Askable, Answers, Flags, Learnable, Flaggable, Stands, Fresh, Anew, Matching};
+use crate::index::FLAG;
+use crate::index::look;
+use crate::index::word_of;
+use crate::links::is_among;
+use crate::words::wipe;
+use lists::Link;
+
+// A word as it stands, 0 where it is not noted.
+fn standing(frag: &[u32], n: usize, w: u32) -> u32
+    requires { ⌜ Flaggable n w (now frag) ⌝ }
+    ensures { λ r. ⌜ Stands n w (now (frag .entry)) r ⌝ }
+{
+    let i = look(frag, 7 * n, 9 * n, w);
+    if i == 9 * n {
+        return 0;
+    }
+    frag[7 * n + i]
+}
+
+// A word gets its flag where it is noted: its link is held.
+fn set_flag(frag: &mut [u32], n: usize, w: u32)
+    requires { ⌜ Flaggable n w (now frag) ⌝ }
+    ensures { λ r. ⌜ Flags n (linkIn w) (now (frag .entry)) (now (frag .exit)) ⌝ }
+{
+    let i = look(frag, 7 * n, 9 * n, w);
+    if i < 9 * n {
+        let x = frag[7 * n + i];
+        if x != 0 {
+            if x < FLAG {
+                frag[7 * n + i] = x + FLAG;
+            }
+        }
+    }
+}
+
+// The link from a to b is held now.
+pub(crate) fn note_held(frag: &mut [u32], n: usize, a: usize, b: usize)
+    requires { ⌜ Learnable n a b (now frag) ⌝ }
+    ensures { λ r. ⌜ Flags n (min a b, max a b) (now (frag .entry)) (now (frag .exit)) ⌝ }
+{
+    set_flag(frag, n, word_of(a, b));
+}
+
+// The first `count` held links are told to the links noted.
+fn set_flags(frag: &mut [u32], held: &[u32], n: usize, count: usize)
+    requires { ⌜ Matching n count (now frag) (now held) ⌝ }
+    ensures { λ r. ⌜ Noted n (map linkIn (take count (now (held .entry)))) (now (frag .exit)) × Apart n (now (frag .entry)) (now (frag .exit)) ⌝ }
+{
+    let mut i = 0;
+    while i < count {
+        set_flag(frag, n, held[i]);
+        i += 1;
+    }
+}
+
+// A link between two unplaced fragments is noted. Returns how many were: 0 or 1, or 4·n where no slot is left.
+fn note_one(frag: &mut [u32], n: usize, a: usize, b: usize) -> usize
+    requires { ⌜ Fresh n (now frag) × Ends n a b ⌝ }
+    ensures { λ r. ⌜ Fresh n (now (frag .exit)) × Apart n (now (frag .entry)) (now (frag .exit)) × (r ≤ 4 * n) ⌝ }
+{
+    if frag[n + a] != 0 {
+        return 0;
+    }
+    if frag[n + b] != 0 {
+        return 0;
+    }
+    let w = word_of(a, b);
+    let i = look(frag, 7 * n, 9 * n, w);
+    if i == 9 * n {
+        return 4 * n;
+    }
+    if frag[7 * n + i] != 0 {
+        return 0;
+    }
+    frag[7 * n + i] = w;
+    1
+}
+
+// Where in a block the noting ends: not much farther than what was told and held before.
+fn block_end(len: usize, at: usize, most: usize) -> usize
+    ensures { λ r. ⌜ r ≤ len ⌝ }
+{
+    if len <= at {
+        return len;
+    }
+    let left = len - at;
+    if left <= most {
+        return len;
+    }
+    if left - most <= at {
+        return len;
+    }
+    at + at + most
+}
+
+// Links of a block from one byte to another are noted, until 4·n are.
+fn note_links(frag: &mut [u32], n: usize, first: u32, block: &[u8], from: usize, end: usize)
+    requires { ⌜ Fresh n (now frag) × (end ≤ length (now block)) ⌝ }
+    ensures { λ r. ⌜ Fresh n (now (frag .exit)) × Apart n (now (frag .entry)) (now (frag .exit)) ⌝ }
+{
+    let mut told = first;
+    let mut at = from;
+    let mut c = 0;
+    while at < end {
+        if 4 * n <= c {
+            return;
+        }
+        match lists::link_at(n as u32, told, block, at) {
+            Link::Ends(a, b, next) => {
+                c += note_one(frag, n, a as usize, b as usize);
+                told += 1;
+                at = next;
+            }
+            Link::Refused(_) => {
+                return;
+            }
+        }
+    }
+}
+
+// The links noted so far give way to those that follow in the block.
+fn note_anew(
+    frag: &mut [u32],
+    held: &[u32],
+    n: usize,
+    count: usize,
+    told: u32,
+    block: &[u8],
+    at: usize,
+)
+    requires { ⌜ Anew n count (now frag) (now held) ⌝ }
+    ensures { λ r. ⌜ Noted n (map linkIn (take count (now (held .entry)))) (now (frag .exit)) × Apart n (now (frag .entry)) (now (frag .exit)) ⌝ }
+{
+    wipe(frag, 7 * n, 16 * n);
+    let end = block_end(block.len(), at, 4 * count + 1024);
+    note_links(frag, n, told, block, at, end);
+    set_flags(frag, held, n, count);
+}
+
+// Whether the link between a and b is held. `told` entries came before byte `at` of the block, where this link is told.
+pub(crate) fn is_held(
+    frag: &mut [u32],
+    held: &[u32],
+    n: usize,
+    count: usize,
+    a: usize,
+    b: usize,
+    told: u32,
+    block: &[u8],
+    at: usize,
+) -> bool
+    requires { ⌜ Askable n count a b (now frag) (now held) ⌝ }
+    ensures { λ r. ⌜ Answers n count a b (now (frag .entry)) (now (held .entry)) r (now (frag .exit)) ⌝ }
+{
+    let x = standing(frag, n, word_of(a, b));
+    if x != 0 {
+        return FLAG <= x;
+    }
+    let answer = is_among(held, 0, count, a, b);
+    note_anew(frag, held, n, count, told, block, at);
+    answer
+}
