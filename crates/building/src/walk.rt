@@ -2,19 +2,19 @@
 ghost use mathlib.Core.Path.{_≡_};
 ghost use Prim.Native.Nat.{_<_};
 ghost use lib.ListN.{length};
-ghost use Rattle.building.specs.Arranged.{greaterAt, afterAt};
+ghost use Rattle.building.specs.Arranged.{smallerAt, afterAt};
 ghost use Rattle.building.specs.Walk.{Wide, cursorsAt, enteredAt, Found, Findable, Seekable, SeeksSmaller, SeeksGreater, Seeks, putAt, hungAt, Hangable, Reachable, deeper, reachedAt, MayWalk, Walks};
 use crate::words::RADIX;
 
-// The neighbour at a place among the greater neighbours of a fragment.
-fn greater_at(held: &[u32], i: usize) -> usize
+// The neighbour at a place among the smaller neighbours of a fragment.
+fn smaller_at(held: &[u32], i: usize) -> usize
     requires { ⌜ i < length (now held) ⌝ }
-    ensures { λ r. ⌜ r ≡ greaterAt (now (held .entry)) i ⌝ }
+    ensures { λ r. ⌜ r ≡ smallerAt (now (held .entry)) i ⌝ }
 {
     (held[i] % RADIX) as usize
 }
 
-// Of the neighbour at a place, the next smaller neighbour after the fragment whose place it is; that fragment where there is none.
+// Of the neighbour at a place, the next greater neighbour after the fragment whose place it is; that fragment where there is none.
 fn after_at(held: &[u32], i: usize) -> usize
     requires { ⌜ i < length (now held) ⌝ }
     ensures { λ r. ⌜ r ≡ afterAt (now (held .entry)) i ⌝ }
@@ -22,16 +22,16 @@ fn after_at(held: &[u32], i: usize) -> usize
     (held[i] / RADIX) as usize
 }
 
-// The place of v among the greater neighbours of a.
-fn place_of(frag: &[u32], held: &[u32], n: usize, a: usize, v: usize) -> usize
-    requires { ⌜ Findable n a v (now frag) (now held) ⌝ }
-    ensures { λ r. ⌜ Found n a v (now (frag .entry)) (now (held .entry)) r ⌝ }
+// The place of v among the smaller neighbours of b.
+fn place_of(frag: &[u32], held: &[u32], n: usize, b: usize, v: usize) -> usize
+    requires { ⌜ Findable n b v (now frag) (now held) ⌝ }
+    ensures { λ r. ⌜ Found n b v (now (frag .entry)) (now (held .entry)) r ⌝ }
 {
-    let mut low = frag[4 * n + a] as usize;
-    let mut high = frag[4 * n + (a + 1)] as usize;
+    let mut low = frag[4 * n + b] as usize;
+    let mut high = frag[4 * n + (b + 1)] as usize;
     while low + 1 < high {
         let middle = (low + high) / 2;
-        if v < greater_at(held, middle) {
+        if v < smaller_at(held, middle) {
             high = middle;
         } else {
             low = middle;
@@ -40,36 +40,15 @@ fn place_of(frag: &[u32], held: &[u32], n: usize, a: usize, v: usize) -> usize
     low
 }
 
-// One more than the next unplaced one of the smaller neighbours of v; 0 where the walk is through with them.
+// The place of the next unplaced one of the smaller neighbours of v, or the place where they end.
 fn next_smaller(frag: &[u32], held: &[u32], n: usize, v: usize) -> usize
     requires { ⌜ Seekable n v (now frag) (now held) ⌝ }
     ensures { λ r. ⌜ SeeksSmaller n v r (now (frag .entry)) (now (held .entry)) ⌝ }
 {
-    let mut s = frag[14 * n + v] as usize;
-    while s != 0 {
-        let a = s - 1;
-        if frag[n + a] == 0 {
-            return s;
-        }
-        let i = place_of(frag, held, n, a, v);
-        let w = after_at(held, i);
-        if w == a {
-            return 0;
-        }
-        s = w + 1;
-    }
-    0
-}
-
-// The place of the next unplaced one of the greater neighbours of v, or the place where they end.
-fn next_greater(frag: &[u32], held: &[u32], n: usize, v: usize) -> usize
-    requires { ⌜ Seekable n v (now frag) (now held) ⌝ }
-    ensures { λ r. ⌜ SeeksGreater n v r (now (frag .entry)) (now (held .entry)) ⌝ }
-{
     let end = frag[4 * n + (v + 1)] as usize;
     let mut i = frag[15 * n + v] as usize;
     while i < end {
-        let w = greater_at(held, i);
+        let w = smaller_at(held, i);
         if frag[n + w] == 0 {
             return i;
         }
@@ -78,13 +57,34 @@ fn next_greater(frag: &[u32], held: &[u32], n: usize, v: usize) -> usize
     i
 }
 
-// The cursors of v are kept.
-fn keep_cursors(frag: &mut [u32], n: usize, v: usize, s: u32, g: u32)
-    requires { ⌜ Wide n (now frag) × (v < n) ⌝ }
-    ensures { λ r. ⌜ now (frag .exit) ≡ cursorsAt n v s g (now (frag .entry)) ⌝ }
+// One more than the next unplaced one of the greater neighbours of v; 0 where the walk is through with them.
+fn next_greater(frag: &[u32], held: &[u32], n: usize, v: usize) -> usize
+    requires { ⌜ Seekable n v (now frag) (now held) ⌝ }
+    ensures { λ r. ⌜ SeeksGreater n v r (now (frag .entry)) (now (held .entry)) ⌝ }
 {
-    frag[14 * n + v] = s;
-    frag[15 * n + v] = g;
+    let mut g = frag[14 * n + v] as usize;
+    while g != 0 {
+        let b = g - 1;
+        if frag[n + b] == 0 {
+            return g;
+        }
+        let i = place_of(frag, held, n, b, v);
+        let w = after_at(held, i);
+        if w == b {
+            return 0;
+        }
+        g = w + 1;
+    }
+    0
+}
+
+// The cursors of v are kept.
+fn keep_cursors(frag: &mut [u32], n: usize, v: usize, g: u32, s: u32)
+    requires { ⌜ Wide n (now frag) × (v < n) ⌝ }
+    ensures { λ r. ⌜ now (frag .exit) ≡ cursorsAt n v g s (now (frag .entry)) ⌝ }
+{
+    frag[14 * n + v] = g;
+    frag[15 * n + v] = s;
 }
 
 // The smallest unplaced neighbour of v; n where there is none.
@@ -92,16 +92,16 @@ fn next_of(frag: &mut [u32], held: &[u32], n: usize, v: usize) -> usize
     requires { ⌜ Seekable n v (now frag) (now held) ⌝ }
     ensures { λ r. ⌜ Seeks n v r (now (frag .entry)) (now (held .entry)) (now (frag .exit)) ⌝ }
 {
-    let s = next_smaller(frag, held, n, v);
-    if s != 0 {
-        frag[14 * n + v] = s as u32;
-        return s - 1;
-    }
-    let i = next_greater(frag, held, n, v);
+    let i = next_smaller(frag, held, n, v);
     let end = frag[4 * n + (v + 1)] as usize;
-    keep_cursors(frag, n, v, 0, i as u32);
     if i < end {
-        return greater_at(held, i);
+        frag[15 * n + v] = i as u32;
+        return smaller_at(held, i);
+    }
+    let g = next_greater(frag, held, n, v);
+    keep_cursors(frag, n, v, g as u32, i as u32);
+    if g != 0 {
+        return g - 1;
     }
     n
 }
@@ -111,9 +111,9 @@ fn enter(frag: &mut [u32], n: usize, v: usize)
     requires { ⌜ Wide n (now frag) × (v < n) ⌝ }
     ensures { λ r. ⌜ now (frag .exit) ≡ enteredAt n v (now (frag .entry)) ⌝ }
 {
-    let s = frag[6 * n + v];
-    let g = frag[4 * n + v];
-    keep_cursors(frag, n, v, s, g);
+    let g = frag[6 * n + v];
+    let s = frag[4 * n + v];
+    keep_cursors(frag, n, v, g, s);
 }
 
 // A fragment is placed: its parent, and one more than its level.
@@ -153,21 +153,25 @@ fn reach(frag: &mut [u32], n: usize, at: usize, x: usize, deepest: usize) -> usi
     deepest
 }
 
-// The whole walk from a top that is placed; the deepest member.
-pub(crate) fn walk(frag: &mut [u32], held: &[u32], n: usize, count: usize, top: usize) -> usize
-    requires { ⌜ MayWalk n count top (now frag) (now held) ⌝ }
-    ensures { λ r. ⌜ Walks n count top r (now (frag .entry)) (now (held .entry)) (now (frag .exit)) ⌝ }
+// The whole walk from a top that is placed; the deepest member. At most `missing` members of its piece are not reached yet: it ends with the last of them.
+pub(crate) fn walk(frag: &mut [u32], held: &[u32], n: usize, count: usize, top: usize, mut missing: usize) -> usize
+    requires { ⌜ MayWalk n count top missing (now frag) (now held) ⌝ }
+    ensures { λ r. ⌜ Walks n count top missing r (now (frag .entry)) (now (held .entry)) (now (frag .exit)) ⌝ }
 {
     enter(frag, n, top);
     let mut left = 2 * n;
     let mut at = top;
     let mut deepest = top;
     while left > 0 {
+        if missing == 0 {
+            return deepest;
+        }
         left -= 1;
         let x = next_of(frag, held, n, at);
         if x < n {
             deepest = reach(frag, n, at, x, deepest);
             at = x;
+            missing -= 1;
         } else {
             if at == top {
                 return deepest;

@@ -1,6 +1,6 @@
 -- The end of a pass: labels, chains and arranged links, the pieces placed, and all but the forest cleared.
 -- Assumes nothing.
-use Prim.Native.Nat.{ℕ, zero, suc, _+_, _-_, _*_, _≤_, _<_}
+use Prim.Native.Nat.{ℕ, zero, suc, _+_, _-_, _*_, _/_, _%_, _≤_, _<_}
 use mathlib.Core.Path.{_≡_, refl, sym, ap, _∙_}
 use mathlib.Core.Bool.{true, false, _&&_, not}
 use mathlib.Core.List.{List, [], _∷_, _++_, map, append-assoc}
@@ -18,12 +18,12 @@ use Rattle.rules.specs.Building.{pieces, placePieces, closeBuilding, done}
 use Rattle.rules.specs.Laws.Search.{every-at, every-intro}
 use Rattle.rules.specs.Laws.Pieces.{label-in, pieces-length}
 use Rattle.rules.specs.Laws.Tables.{placed-rank, rank-placed}
-use Rattle.state.specs.Layout.{words, stored, section, linkIn, tablesIn, forestIn, fragOf, bare}
+use Rattle.state.specs.Layout.{words, stored, radix, section, linkIn, tablesIn, forestIn, fragOf, bare}
 use Rattle.state.specs.Test.{endsFit, noneTwice}
 use Rattle.state.specs.Laws.Held.{once-made}
 use Rattle.state.specs.Laws.Layout.{section-length, section-at, level-word}
 use Rattle.state.specs.Laws.Lists.{zeros}
-use Rattle.building.specs.Arranged.{greaterAt, afterAt, Arrangeable, Arranges}
+use Rattle.building.specs.Arranged.{Arrangeable, Arranges}
 use Rattle.building.specs.Pieces.{Pointing, Gathered, Finds, Gatherable, Gathers, Kept, wiped}
 use Rattle.building.specs.Closing.{labelsIn, Labelable, Labels, Chainable, Chains, PlacesAll, Endable, Prepares, EndsPass}
 use Rattle.building.specs.Telling.{heldTables}
@@ -133,7 +133,7 @@ module _ {n : ℕ} {f f′ : List ℕ} (K : Kept n f f′) where
   kept-behind i l = rest-at (7 * n) f f′ (K .behind) i l
 
 -- The held words, by what the test asks of their links.
-ends-at : (n : ℕ) (t : Tables) (h : List ℕ) (m i : ℕ) → T (endsFit n t (map linkIn (take m h))) → i < m → m ≤ length h → (afterAt h i < greaterAt h i) × (greaterAt h i < n)
+ends-at : (n : ℕ) (t : Tables) (h : List ℕ) (m i : ℕ) → T (endsFit n t (map linkIn (take m h))) → i < m → m ≤ length h → (getD h i 0 / radix < getD h i 0 % radix) × (getD h i 0 % radix < n)
 unfolding endsFit linkIn
 ends-at n t [] m i x l b = absurd (omega arith)
 ends-at n t (w ∷ h) zero i x l b = absurd (omega arith)

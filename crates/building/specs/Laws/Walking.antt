@@ -1,28 +1,34 @@
 -- What the stores of a walk change, and that its loop makes the walk of the rules.
 -- Assumes nothing.
-use Prim.Native.Nat.{ℕ, suc, pred, _+_, _-_, _*_, _≤_, _<_}
+use Prim.Native.Nat.{ℕ, zero, suc, pred, _+_, _-_, _*_, _≤_, _<_}
 use mathlib.Core.Path.{_≡_, refl, sym, ap, _∙_}
+use mathlib.Core.Bool.{not}
 use mathlib.Core.List.{List}
 use mathlib.Core.Logic.{inr, _≢_}
 use native.Mathlib.Omega.{arith}
-use native.Mathlib.Decide.{ℕ-discrete}
+use native.Mathlib.Decide.{ℕ-discrete, decLt}
 use native.Mathlib.Numerals.{add-one}
 use borrow.Author.Tests.{eq-eqb, ne-eqb}
-use lib.Dec.{T, ltb, eqb}
+use lib.Dec.{T, ltb, eqb, not-T, T-not}
 use lib.ListN.{length, getD, set, drop, length-set}
 use lib.Seq.{drop-set-lt, getD-set-same, getD-set-other}
 use Rattle.base.specs.Pick.{pick, pick-true, pick-false, pick-all, tests}
-use Rattle.rules.specs.Tables.{parentOf, rank, placed, place}
-use Rattle.rules.specs.Building.{Walk, hang, nextOf, reachNext, goBack, walkStep, walkSteps, walked}
+use Rattle.base.specs.Truth.{and-intro, and-r}
+use Rattle.rules.specs.Links.{linked, JoinedBy, here}
+use Rattle.rules.specs.Tables.{Tables, parentOf, rank, placed, place}
+use Rattle.rules.specs.Building.{Walk, pieces, member, hang, nextOf, reachNext, goBack, walkStep, walkSteps, walked}
 use Rattle.rules.specs.Laws.Facts.{Standing, Loose}
-use Rattle.rules.specs.Laws.Tables.{placed-loose, placed-place-same, placed-place-other, standing-same, standing-place, rank-most}
+use Rattle.rules.specs.Laws.Chain.{join, one}
+use Rattle.rules.specs.Laws.Search.{some-count, count-one-more}
+use Rattle.rules.specs.Laws.Pieces.{Inside, joined-label, member-intro}
+use Rattle.rules.specs.Laws.Tables.{placed-loose, place-held, placed-place-same, placed-place-other, standing-same, standing-place, rank-most}
 use Rattle.rules.specs.Laws.Walk.{step-on, step-back, back-at, back-rest, steps-suc, steps-rest, next-new}
 use Rattle.state.specs.Layout.{words, tablesIn, forestIn}
 use Rattle.state.specs.Laws.Layout.{level-word, parent-word, store-place, store-scratch}
-use Rattle.building.specs.Arranged.{startOf, leastOf, greaterAt, Arranged, Frame}
-use Rattle.building.specs.Walk.{Placed, smallerOf, greaterOf, Behind, cursorsAt, enteredAt, Seekable, Seeks, putAt, hungAt, reachedAt, deeper, Reachable, Walkable, WalkLeaves}
+use Rattle.building.specs.Arranged.{linksIn, startOf, leastOf, smallerAt, Arranged, Frame}
+use Rattle.building.specs.Walk.{Placed, greaterOf, smallerOf, Behind, cursorsAt, enteredAt, Seekable, Seeks, putAt, hungAt, reachedAt, deeper, Reachable, waits, unreached, Walkable, WalkLeaves}
 use Rattle.building.specs.Telling.{heldTables, holds}
-use Rattle.building.specs.Laws.Seeking.{arranged-wide, greater-in, placed-word, word-placed}
+use Rattle.building.specs.Laws.Seeking.{arranged-wide, smaller-in, placed-word, word-placed}
 
 -- What is known of the forest alone.
 pub bare-standing : (n c : ℕ) (f h : List ℕ) → Standing n (heldTables n c f h) → Standing n (forestIn n f)
@@ -65,9 +71,9 @@ module _ (n c : ℕ) (f h : List ℕ) where
   unfolding putAt
   put-tables v p r l = store-place (holds n c) f h v r l p
 
-  cursors-tables : (v s g : ℕ) → heldTables n c (cursorsAt n v s g f) h ≡ heldTables n c f h
+  cursors-tables : (v g s : ℕ) → heldTables n c (cursorsAt n v g s f) h ≡ heldTables n c f h
   unfolding cursorsAt
-  cursors-tables v s g = store-scratch (holds n c) (set f (14 * n + v) s) h (15 * n + v) g (omega arith) ∙ store-scratch (holds n c) f h (14 * n + v) s (omega arith)
+  cursors-tables v g s = store-scratch (holds n c) (set f (14 * n + v) g) h (15 * n + v) s (omega arith) ∙ store-scratch (holds n c) f h (14 * n + v) g (omega arith)
 
   deeper-is : (at x d : ℕ) → at < n → d < n → deeper n at x d f ≡ pick (ltb (rank (heldTables n c f h) d) (suc (rank (heldTables n c f h) at))) x d
   unfolding deeper
@@ -144,20 +150,20 @@ module _ (n : ℕ) (f : List ℕ) (v : ℕ) (l : v < n) where
       past = λ i a. put-same i (omega arith) (omega arith);
     }
 
-  module _ (s g : ℕ) where
-    cursors-same : (i : ℕ) → i ≢ 14 * n + v → i ≢ 15 * n + v → getD (cursorsAt n v s g f) i 0 ≡ getD f i 0
+  module _ (g s : ℕ) where
+    cursors-same : (i : ℕ) → i ≢ 14 * n + v → i ≢ 15 * n + v → getD (cursorsAt n v g s f) i 0 ≡ getD f i 0
     unfolding cursorsAt
-    cursors-same i a b = getD-set-other (set f (14 * n + v) s) (15 * n + v) i g 0 b ∙ getD-set-other f (14 * n + v) i s 0 a
+    cursors-same i a b = getD-set-other (set f (14 * n + v) g) (15 * n + v) i s 0 b ∙ getD-set-other f (14 * n + v) i g 0 a
 
-    cursors-smaller : words * n ≤ length f → smallerOf n (cursorsAt n v s g f) v ≡ s
+    cursors-greater : words * n ≤ length f → greaterOf n (cursorsAt n v g s f) v ≡ g
     unfolding cursorsAt
-    cursors-smaller b = getD-set-other (set f (14 * n + v) s) (15 * n + v) (14 * n + v) g 0 (omega arith) ∙ getD-set-same f (14 * n + v) s 0 (omega arith)
+    cursors-greater b = getD-set-other (set f (14 * n + v) g) (15 * n + v) (14 * n + v) s 0 (omega arith) ∙ getD-set-same f (14 * n + v) g 0 (omega arith)
 
-    cursors-greater : words * n ≤ length f → greaterOf n (cursorsAt n v s g f) v ≡ g
+    cursors-smaller : words * n ≤ length f → smallerOf n (cursorsAt n v g s f) v ≡ s
     unfolding cursorsAt
-    cursors-greater b = getD-set-same (set f (14 * n + v) s) (15 * n + v) g 0 (simp length-set (omega arith))
+    cursors-smaller b = getD-set-same (set f (14 * n + v) g) (15 * n + v) s 0 (simp length-set (omega arith))
 
-    cursors-frame : Frame n 2 14 f (cursorsAt n v s g f)
+    cursors-frame : Frame n 2 14 f (cursorsAt n v g s f)
     unfolding cursorsAt
     cursors-frame = record {
       same-long = simp length-set;
@@ -174,16 +180,16 @@ arranged-kept {n} {c} {h₀} {f} {h} A some f′ long same = record {
   among = A .among;
   ordered = λ v l. omega (arith, A .ordered v l, start v (omega arith), start (suc v) l);
   last = omega (arith, A .last, start n (omega arith));
-  greater = λ v i l a b. A .greater v i l (from v i l a) (to v i l b);
+  smaller = λ v i l a b. A .smaller v i l (from v i l a) (to v i l b);
   rising = λ v i j l a g b. A .rising v i j l (from v i l a) g (to v j l b);
   found = λ v w g t.
-      let l : v < n = A .among v w t .0 in
+      let l : v < n = A .among w v t .1 in
       let (i, a, b, e) = A .found v w g t in
       (i, omega (arith, start v (omega arith)), omega (arith, start (suc v) l), e);
-  no-least = λ b l z. A .no-least b l (sym (least-same b l) ∙ z);
-  least = λ b a l e. A .least b a l (sym (least-same b l) ∙ e);
-  no-after = λ a i l p q. A .no-after a i l (from a i l p) (to a i l q);
-  after = λ a i l p q. A .after a i l (from a i l p) (to a i l q);
+  no-least = λ a l z. A .no-least a l (sym (least-same a l) ∙ z);
+  least = λ a b l e. A .least a b l (sym (least-same a l) ∙ e);
+  no-after = λ b i l p q. A .no-after b i l (from b i l p) (to b i l q);
+  after = λ b i l p q. A .after b i l (from b i l p) (to b i l q);
 }
   where
     start : (v : ℕ) → v ≤ n → startOf n f′ v ≡ startOf n f v
@@ -205,83 +211,111 @@ framed-arranged A some F = arranged-kept A some _ (F .same-long) (λ i a b. F .w
 pub record On (n c : ℕ) (h₀ f h : List ℕ) (v : ℕ) : Type 0 where
   pub in-range : v < n
   pub is-placed : Placed n f v
-  pub behind : Behind n c h₀ f h v (smallerOf n f v) (greaterOf n f v)
+  pub behind : Behind n c h₀ f h v (greaterOf n f v) (smallerOf n f v)
 
 -- What is passed stays so while more is placed.
 module _ {n c : ℕ} {h₀ f h : List ℕ} (A : Arranged n c h₀ f h) {f′ : List ℕ} (F : Frame n 2 14 f f′) (grows : (x : ℕ) → x < n → Placed n f x → Placed n f′ x) where
-  behind-kept : (v s g : ℕ) → v < n → Behind n c h₀ f h v s g → Behind n c h₀ f′ h v s g
-  behind-kept v s g l B =
+  behind-kept : (v g s : ℕ) → v < n → Behind n c h₀ f h v g s → Behind n c h₀ f′ h v g s
+  behind-kept v g s l B =
       let p = F .within (4 * n + v) (omega arith) (omega arith) in
       let q = F .within (4 * n + suc v) (omega arith) (omega arith) in
       record {
-        smaller = record {
-          through = λ z x m t. grows x (omega arith) (B .smaller .through z x m t);
-          before = λ a z. let (m, t, b) = B .smaller .before a z in (m, t, λ x o u. grows x (omega arith) (b x o u));
-        };
         greater = record {
-          from = omega (arith, p, B .greater .from);
-          to = omega (arith, q, B .greater .to);
-          before = λ i m o. grows (greaterAt h i) (greater-in A v i l (omega arith) (omega (arith, B .greater .to))) (B .greater .before i (omega arith) o);
+          through = λ z x m t. grows x (A .among v x t .1) (B .greater .through z x m t);
+          before = λ b z. let (m, t, passed) = B .greater .before b z in (m, t, λ x o k u. grows x (A .among v x u .1) (passed x o k u));
+        };
+        smaller = record {
+          from = omega (arith, p, B .smaller .from);
+          to = omega (arith, q, B .smaller .to);
+          before = λ i m o. grows (smallerAt h i) (smaller-in A v i l (omega arith) (omega (arith, B .smaller .to))) (B .smaller .before i (omega arith) o);
         };
       }
 
-  on-kept : (v s g : ℕ) → v < n → Placed n f v → smallerOf n f′ v ≡ s → greaterOf n f′ v ≡ g → Behind n c h₀ f h v s g → On n c h₀ f′ h v
-  on-kept v s g l p d e B = record { in-range = l; is-placed = grows v l p; behind = rw (d, e) (behind-kept v s g l B) }
+  on-kept : (v g s : ℕ) → v < n → Placed n f v → greaterOf n f′ v ≡ g → smallerOf n f′ v ≡ s → Behind n c h₀ f h v g s → On n c h₀ f′ h v
+  on-kept v g s l p d e B = record { in-range = l; is-placed = grows v l p; behind = rw (d, e) (behind-kept v g s l B) }
 
 -- The cursors of v are kept.
-module _ {n c : ℕ} {h₀ f h : List ℕ} (A : Arranged n c h₀ f h) (v : ℕ) (l : v < n) (s g : ℕ) where
-  cursors-grow : (x : ℕ) → x < n → Placed n f x → Placed n (cursorsAt n v s g f) x
-  cursors-grow x m p = omega (arith, cursors-same n f v l s g (n + x) (omega arith) (omega arith))
+module _ {n c : ℕ} {h₀ f h : List ℕ} (A : Arranged n c h₀ f h) (v : ℕ) (l : v < n) (g s : ℕ) where
+  cursors-grow : (x : ℕ) → x < n → Placed n f x → Placed n (cursorsAt n v g s f) x
+  cursors-grow x m p = omega (arith, cursors-same n f v l g s (n + x) (omega arith) (omega arith))
 
-  cursors-arranged : Arranged n c h₀ (cursorsAt n v s g f) h
-  cursors-arranged = framed-arranged A (omega arith) (cursors-frame n f v l s g)
+  cursors-arranged : Arranged n c h₀ (cursorsAt n v g s f) h
+  cursors-arranged = framed-arranged A (omega arith) (cursors-frame n f v l g s)
 
-  module _ (B : Behind n c h₀ f h v s g) where
-    cursors-here : Placed n f v → On n c h₀ (cursorsAt n v s g f) h v
-    cursors-here p = on-kept A (cursors-frame n f v l s g) cursors-grow v s g l p (cursors-smaller n f v l s g (A .long)) (cursors-greater n f v l s g (A .long)) B
+  module _ (B : Behind n c h₀ f h v g s) where
+    cursors-here : Placed n f v → On n c h₀ (cursorsAt n v g s f) h v
+    cursors-here p = on-kept A (cursors-frame n f v l g s) cursors-grow v g s l p (cursors-greater n f v l g s (A .long)) (cursors-smaller n f v l g s (A .long)) B
 
-    cursors-on : (u : ℕ) → On n c h₀ f h u → On n c h₀ (cursorsAt n v s g f) h u × (getD (cursorsAt n v s g f) u 0 ≡ getD f u 0)
+    cursors-on : (u : ℕ) → On n c h₀ f h u → On n c h₀ (cursorsAt n v g s f) h u × (getD (cursorsAt n v g s f) u 0 ≡ getD f u 0)
     cursors-on u O =
         let i = O .in-range in (
           elim (ℕ-discrete u v) [
             | yes e ↦ rw e (cursors-here (rw e at (O .is-placed)))
-            | no d ↦ on-kept A (cursors-frame n f v l s g) cursors-grow u _ _ i (O .is-placed) (cursors-same n f v l s g (14 * n + u) (omega arith) (omega arith)) (cursors-same n f v l s g (15 * n + u) (omega arith) (omega arith)) (O .behind)
+            | no d ↦ on-kept A (cursors-frame n f v l g s) cursors-grow u _ _ i (O .is-placed) (cursors-same n f v l g s (14 * n + u) (omega arith) (omega arith)) (cursors-same n f v l g s (15 * n + u) (omega arith) (omega arith)) (O .behind)
           ],
-          cursors-same n f v l s g u (omega arith) (omega arith),
+          cursors-same n f v l g s u (omega arith) (omega arith),
         )
 
 -- Cursors at their start have passed nothing.
 entered-behind : {n c : ℕ} {h₀ f h : List ℕ} → Arranged n c h₀ f h → (v : ℕ) → v < n → Behind n c h₀ f h v (leastOf n f v) (startOf n f v)
 entered-behind A v l = record {
-  smaller = record {
+  greater = record {
     through = λ z x m t. absurd (A .no-least v l z x m t);
-    before = λ a z. let (m, t, none) = A .least v a l z in (m, t, λ x o u. absurd (none x o u));
+    before = λ b z. let (m, t, none) = A .least v b l z in (m, t, λ x o k u. absurd (none x o k u));
   };
-  greater = record { from = omega arith; to = A .ordered v l; before = λ i m o. absurd (omega arith) };
+  smaller = record { from = omega arith; to = A .ordered v l; before = λ i m o. absurd (omega arith) };
 }
 
--- The way that the walk came, from a fragment back to the top.
+-- The way that the walk came along links, from a fragment back to the top.
 pub data Way (n c top : ℕ) (h₀ f h : List ℕ) : ℕ → Type 0 where
   at-top : On n c h₀ f h top → Way n c top h₀ f h top
-  below : (v : ℕ) → On n c h₀ f h v → Way n c top h₀ f h (getD f v 0) → Way n c top h₀ f h v
+  below : (v : ℕ) → On n c h₀ f h v → T (linksIn c h₀ (getD f v 0) v) → Way n c top h₀ f h (getD f v 0) → Way n c top h₀ f h v
 
 way-on : {n c top : ℕ} {h₀ f h : List ℕ} {v : ℕ} → Way n c top h₀ f h v → On n c h₀ f h v
 way-on (at-top o) = o
-way-on (below v o w) = o
+way-on (below v o t w) = o
 
 way-back : {n c top : ℕ} {h₀ f h : List ℕ} {v : ℕ} → Way n c top h₀ f h v → v ≢ top → Way n c top h₀ f h (getD f v 0)
 way-back (at-top o) d = absurd (d refl)
-way-back (below v o w) d = w
+way-back (below v o t w) d = w
+
+way-member : {n c top : ℕ} {h₀ f h : List ℕ} {v : ℕ} → Way n c top h₀ f h v → JoinedBy (linksIn c h₀) top v
+way-member (at-top o) = here
+way-member (below v o t w) = join (way-member w) (one t)
 
 way-kept : {n c top : ℕ} {h₀ f f′ h : List ℕ} → ((u : ℕ) → On n c h₀ f h u → On n c h₀ f′ h u × (getD f′ u 0 ≡ getD f u 0)) → {v : ℕ} → Way n c top h₀ f h v → Way n c top h₀ f′ h v
 way-kept {top = top} k (at-top o) = at-top (k top o .0)
-way-kept k (below v o w) = below v (k v o .0) (rw (k v o .1) (way-kept k w))
+way-kept k (below v o t w) = below v (k v o .0) (rw (k v o .1) t) (rw (k v o .1) (way-kept k w))
+
+-- An unplaced fragment that links join with the top waits to be reached.
+waits-new : (n top : ℕ) (t : Tables) → Inside n (t .held) → (x : ℕ) → JoinedBy (linked (t .held)) top x → Loose t x → T (waits n t top x)
+unfolding waits
+waits-new n top t inside x c z = and-intro (member (pieces n (t .held)) (getD (pieces n (t .held)) top 0) x) (not (placed t x)) (member-intro (pieces n (t .held)) _ x (sym (joined-label n (t .held) inside top x c))) (not-T (placed t x) (λ p. placed-loose t x p z))
+
+-- One less is unreached where it is placed.
+module _ (n top : ℕ) (t : Tables) (x : ℕ) (l : x < n) (w : T (waits n t top x)) where
+  waits-some : 0 < unreached n t top
+  unfolding unreached
+  waits-some = some-count (waits n t top) n x l w
+
+  module _ (p r : ℕ) (long : x < length (t .level)) (some : 0 < r) where
+    waits-no-more : T (waits n (place x p r t) top x) → ⊥
+    unfolding waits
+    waits-no-more q = T-not (placed (place x p r t) x) (and-r (member _ _ x) (not (placed (place x p r t) x)) q) (placed-place-same x p r t long some)
+
+    waits-still : (k : ℕ) → k < n → k ≢ x → waits n (place x p r t) top k ≡ waits n t top k
+    unfolding waits
+    waits-still k g d = rw (placed-place-other x p r t k d, place-held x p r t)
+
+    waits-less : unreached n t top ≡ suc (unreached n (place x p r t) top)
+    unfolding unreached
+    waits-less = count-one-more (waits n (place x p r t) top) (waits n t top) n x l waits-no-more w waits-still
 
 -- A walk on its way: the steps that are left make it the whole walk.
 abbrev walkAt : (n c : ℕ) (f h : List ℕ) (at deepest : ℕ) → Walk
 walkAt n c f h at deepest = record { tables = heldTables n c f h; at = at; deepest = deepest }
 
-pub record Going (n c top : ℕ) (f₀ h₀ h f : List ℕ) (left at deepest : ℕ) : Type 0 where
+pub record Going (n c top : ℕ) (f₀ h₀ h f : List ℕ) (missing left at deepest : ℕ) : Type 0 where
   pub frame : Frame n 2 14 f₀ f
   pub arranged : Arranged n c h₀ f h
   pub steps : walkSteps n top left (walkAt n c f h₀ at deepest) ≡ walked n top (heldTables n c f₀ h₀)
@@ -289,30 +323,32 @@ pub record Going (n c top : ℕ) (f₀ h₀ h f : List ℕ) (left at deepest : �
   pub way : Way n c top h₀ f h at
   pub deep-in : deepest < n
   pub deep-placed : T (placed (heldTables n c f h₀) deepest)
+  pub to-reach : unreached n (heldTables n c f h₀) top ≤ missing
 
 -- From any table in which the top was entered, along any links.
-abbrev pub Goes : (n c top : ℕ) (f₁ h f : List ℕ) (left at deepest : ℕ) → Type 0
-Goes n c top f₁ h f left at deepest = (f₀ h₀ : List ℕ) → f₁ ≡ enteredAt n top f₀ → Walkable n c top f₀ h₀ h → Going n c top f₀ h₀ h f left at deepest
+abbrev pub Goes : (n c top missing₀ : ℕ) (f₁ h f : List ℕ) (missing left at deepest : ℕ) → Type 0
+Goes n c top missing₀ f₁ h f missing left at deepest = (f₀ h₀ : List ℕ) → f₁ ≡ enteredAt n top f₀ → Walkable n c top missing₀ f₀ h₀ h → Going n c top f₀ h₀ h f missing left at deepest
 
-pub going-starts : {n c top : ℕ} {f h₀ h : List ℕ} → Walkable n c top f h₀ h → (f′ : List ℕ) → f′ ≡ enteredAt n top f → Going n c top f h₀ h f′ (2 * n) top top
+pub going-starts : {n c top missing : ℕ} {f h₀ h : List ℕ} → Walkable n c top missing f h₀ h → (f′ : List ℕ) → f′ ≡ enteredAt n top f → Going n c top f h₀ h f′ missing (2 * n) top top
 unfolding walked enteredAt
-going-starts {n} {c} {top} {f} {h₀} {h} W f′ e =
+going-starts {n} {c} {top} {missing} {f} {h₀} {h} W f′ e =
     let A = W .arranged in
     let l = W .top-in in
-    let s = leastOf n f top in
-    let g = startOf n f top in
-    let q = cursors-tables n c f h₀ top s g in
+    let g = leastOf n f top in
+    let s = startOf n f top in
+    let q = cursors-tables n c f h₀ top g s in
     rw e (record {
-      frame = cursors-frame n f top l s g;
-      arranged = cursors-arranged A top l s g;
+      frame = cursors-frame n f top l g s;
+      arranged = cursors-arranged A top l g s;
       steps = rw q refl;
       standing = rw q (W .standing);
-      way = at-top (cursors-here A top l s g (entered-behind A top l) (placed-word n c f h₀ top l (W .top-placed)));
+      way = at-top (cursors-here A top l g s (entered-behind A top l) (placed-word n c f h₀ top l (W .top-placed)));
       deep-in = l;
       deep-placed = rw q (W .top-placed);
+      to-reach = rw q (W .left);
     })
 
-module _ {n c top : ℕ} {f₀ h₀ h f : List ℕ} {left at deepest : ℕ} (G : Going n c top f₀ h₀ h f left at deepest) where
+module _ {n c top : ℕ} {f₀ h₀ h f : List ℕ} {missing left at deepest : ℕ} (G : Going n c top f₀ h₀ h f missing left at deepest) where
   at-on : On n c h₀ f h at
   at-on = way-on (G .way)
 
@@ -323,23 +359,24 @@ module _ {n c top : ℕ} {f₀ h₀ h f : List ℕ} {left at deepest : ℕ} (G :
   going-seekable = record { in-range = at-on .in-range; count = c; told = h₀; arranged = G .arranged; behind = at-on .behind }
 
   -- The cursors where it is have moved on.
-  pub going-seeks : (x : ℕ) (f′ : List ℕ) → Seeks n at x f h f′ → Going n c top f₀ h₀ h f′ left at deepest × (x ≡ nextOf n (heldTables n c f′ h₀) at)
+  pub going-seeks : (x : ℕ) (f′ : List ℕ) → Seeks n at x f h f′ → Going n c top f₀ h₀ h f′ missing left at deepest × (x ≡ nextOf n (heldTables n c f′ h₀) at)
   going-seeks x f′ S =
       let A = G .arranged in
       let l = at-on .in-range in
-      let s = S .smaller in
       let g = S .greater in
-      let q = cursors-tables n c f h₀ at s g in
+      let s = S .smaller in
+      let q = cursors-tables n c f h₀ at g s in
       let Z = S .sought c h₀ A (at-on .behind) in
       rw (S .stores) (
         record {
-          frame = frame-trans (G .frame) (cursors-frame n f at l s g);
-          arranged = cursors-arranged A at l s g;
+          frame = frame-trans (G .frame) (cursors-frame n f at l g s);
+          arranged = cursors-arranged A at l g s;
           steps = rw q (G .steps);
           standing = rw q (G .standing);
-          way = way-kept (cursors-on A at l s g (Z .behind)) (G .way);
+          way = way-kept (cursors-on A at l g s (Z .behind)) (G .way);
           deep-in = G .deep-in;
           deep-placed = rw q (G .deep-placed);
+          to-reach = rw q (G .to-reach);
         },
         rw q (Z .next),
       )
@@ -373,97 +410,129 @@ module _ {n c top : ℕ} {f₀ h₀ h f : List ℕ} {left at deepest : ℕ} (G :
     level = rw (bare-rank n c f h₀ at) (rank-most (G .standing) at (at-on .in-range));
   }
 
-  module _ (some : 0 < left) where
-    after : (w : Walk) → walkStep n top (walkAt n c f h₀ at deepest) ≡ w → walkSteps n top (left - 1) w ≡ walked n top (heldTables n c f₀ h₀)
-    after w e =
-        let one-more : left ≡ suc (left - 1) = omega arith in
-        sym (steps-suc n top (left - 1) (walkAt n c f h₀ at deepest) e) ∙ ap (λ (k : ℕ). walkSteps n top k (walkAt n c f h₀ at deepest)) (sym one-more) ∙ G .steps
+  after : 0 < left → (w : Walk) → walkStep n top (walkAt n c f h₀ at deepest) ≡ w → walkSteps n top (left - 1) w ≡ walked n top (heldTables n c f₀ h₀)
+  after some w e =
+      let one-more : left ≡ suc (left - 1) = omega arith in
+      sym (steps-suc n top (left - 1) (walkAt n c f h₀ at deepest) e) ∙ ap (λ (k : ℕ). walkSteps n top k (walkAt n c f h₀ at deepest)) (sym one-more) ∙ G .steps
 
-    pub going-back : n ≤ nextOf n (heldTables n c f h₀) at → at ≢ top → Going n c top f₀ h₀ h f (left - 1) (getD f at 0) deepest
-    unfolding goBack
-    going-back g d = record {
-      frame = G .frame;
-      arranged = G .arranged;
-      steps = after (walkAt n c f h₀ (getD f at 0) deepest) (step-back n top (walkAt n c f h₀ at deepest) g ∙ ap (λ (x : ℕ). walkAt n c f h₀ x deepest) (back-at top (walkAt n c f h₀ at deepest) d ∙ sym (parent-word (holds n c) f h₀ at (at-on .in-range))));
-      standing = G .standing;
-      way = way-back (G .way) d;
-      deep-in = G .deep-in;
-      deep-placed = G .deep-placed;
+  pub going-back : 0 < left → n ≤ nextOf n (heldTables n c f h₀) at → at ≢ top → Going n c top f₀ h₀ h f missing (left - 1) (getD f at 0) deepest
+  unfolding goBack
+  going-back some g d = record {
+    frame = G .frame;
+    arranged = G .arranged;
+    steps = after some (walkAt n c f h₀ (getD f at 0) deepest) (step-back n top (walkAt n c f h₀ at deepest) g ∙ ap (λ (x : ℕ). walkAt n c f h₀ x deepest) (back-at top (walkAt n c f h₀ at deepest) d ∙ sym (parent-word (holds n c) f h₀ at (at-on .in-range))));
+    standing = G .standing;
+    way = way-back (G .way) d;
+    deep-in = G .deep-in;
+    deep-placed = G .deep-placed;
+    to-reach = G .to-reach;
+  }
+
+  module _ (x : ℕ) (e : x ≡ nextOf n (heldTables n c f h₀) at) (l : x < n) where
+    new-linked : T (linksIn c h₀ at x)
+    unfolding tablesIn
+    new-linked = rw e (next-new n (heldTables n c f h₀) at (rw e at l) .0)
+
+    new-loose : Loose (heldTables n c f h₀) x
+    new-loose = rw e (next-new n (heldTables n c f h₀) at (rw e at l) .1)
+
+    new-waits : T (waits n (heldTables n c f h₀) top x)
+    unfolding tablesIn
+    new-waits =
+        waits-new n top (heldTables n c f h₀) (λ u v t. let (a, b, d) = G .arranged .among u v t in (a, b)) x (join (way-member (G .way)) (one new-linked)) new-loose
+
+    -- One is missing as long as another is found.
+    pub going-missing : 0 < missing
+    going-missing = omega (arith, waits-some n top (heldTables n c f h₀) x l new-waits, G .to-reach)
+
+    reach-is : walkStep n top (walkAt n c f h₀ at deepest) ≡ walkAt n c (reachedAt n at x f) h₀ x (deeper n at x deepest f)
+    unfolding reachNext
+    reach-is =
+        step-on n top (walkAt n c f h₀ at deepest) (rw e at l)
+        ∙ rw (← e, reached-tables n c f h₀ at x (at-on .in-range) l, deeper-is n c f h₀ at x deepest (at-on .in-range) (G .deep-in))
+
+    level-long : x < length (heldTables n c f h₀ .level)
+    level-long = omega (arith, G .standing .long-level)
+
+    placed-still : (v : ℕ) → T (placed (heldTables n c f h₀) v) → T (placed (heldTables n c (reachedAt n at x f) h₀) v)
+    placed-still v p =
+        let t = heldTables n c f h₀ in
+        rw (reached-tables n c f h₀ at x (at-on .in-range) l, placed-place-other x at (suc (rank t at)) t v (λ q. placed-loose t v p (rw q new-loose))) p
+
+    new-placed : T (placed (heldTables n c (reachedAt n at x f) h₀) x)
+    new-placed = rw (reached-tables n c f h₀ at x (at-on .in-range) l) (placed-place-same x at (suc (rank (heldTables n c f h₀) at)) (heldTables n c f h₀) level-long (omega arith))
+
+    -- x is placed, and its cursors are not kept yet.
+    abbrev put : List ℕ
+    put = putAt n x at (suc (getD f (n + at) 0)) f
+
+    other : (u : ℕ) → u < n → Placed n f u → u ≢ x
+    other u m p q = omega (arith, ap (λ (k : ℕ). getD f (n + k) 0) q, level-word (holds n c) f h₀ x l, new-loose)
+
+    put-grow : (u : ℕ) → u < n → Placed n f u → Placed n put u
+    put-grow u m p =
+        let d = other u m p in
+        omega (arith, put-same n f x l at (suc (getD f (n + at) 0)) (n + u) (omega arith) (omega arith))
+
+    put-on : (u : ℕ) → On n c h₀ f h u → On n c h₀ put h u × (getD put u 0 ≡ getD f u 0)
+    put-on u O =
+        let i = O .in-range in
+        let d = other u i (O .is-placed) in
+        let same = put-same n f x l at (suc (getD f (n + at) 0)) in
+        (on-kept (G .arranged) (put-frame n f x l at _) put-grow u _ _ i (O .is-placed) (same (14 * n + u) (omega arith) (omega arith)) (same (15 * n + u) (omega arith) (omega arith)) (O .behind), same u d (omega arith))
+
+    put-arranged : Arranged n c h₀ put h
+    put-arranged = framed-arranged (G .arranged) (omega arith) (put-frame n f x l at _)
+
+    reached-frame : Frame n 2 14 f (reachedAt n at x f)
+    unfolding reachedAt enteredAt
+    reached-frame = frame-trans (put-frame n f x l at _) (cursors-frame n put x l _ _)
+
+    reached-arranged : Arranged n c h₀ (reachedAt n at x f) h
+    unfolding reachedAt enteredAt
+    reached-arranged = cursors-arranged put-arranged x l _ _
+
+    reached-way : Way n c top h₀ (reachedAt n at x f) h x
+    unfolding reachedAt enteredAt
+    reached-way =
+        let g = leastOf n put x in
+        let s = startOf n put x in
+        let B = entered-behind put-arranged x l in
+        let q = G .arranged .long in
+        let parent : getD (cursorsAt n x g s put) x 0 ≡ at = cursors-same n put x l g s x (omega arith) (omega arith) ∙ put-parent n f x l at _ q in
+        below x (cursors-here put-arranged x l g s B (omega (arith, put-level n f x l at (suc (getD f (n + at) 0)) q)))
+        (rw parent new-linked)
+        (rw parent (way-kept (cursors-on put-arranged x l g s B) (way-kept put-on (G .way))))
+
+    reached-on : 0 < left → Going n c top f₀ h₀ h (reachedAt n at x f) (missing - 1) (left - 1) x (deeper n at x deepest f)
+    unfolding deeper
+    reached-on some = record {
+      frame = frame-trans (G .frame) reached-frame;
+      arranged = reached-arranged;
+      steps = after some (walkAt n c (reachedAt n at x f) h₀ x (deeper n at x deepest f)) reach-is;
+      standing = rw (reached-tables n c f h₀ at x (at-on .in-range) l) (standing-place x at (suc (rank (heldTables n c f h₀) at)) (G .standing) l new-loose (inr (at-on .in-range, at-placed, refl)));
+      way = reached-way;
+      deep-in = pick-all (λ d. d < n) (ltb (getD f (n + deepest) 0) (suc (getD f (n + at) 0))) x deepest l (G .deep-in);
+      deep-placed = pick-all (λ d. T (placed (heldTables n c (reachedAt n at x f) h₀) d)) (ltb (getD f (n + deepest) 0) (suc (getD f (n + at) 0))) x deepest new-placed (placed-still deepest (G .deep-placed));
+      to-reach = rw (reached-tables n c f h₀ at x (at-on .in-range) l) (omega (arith, waits-less n top (heldTables n c f h₀) x l new-waits at (suc (rank (heldTables n c f h₀) at)) level-long (omega arith), G .to-reach));
     }
 
-    module _ (x : ℕ) (e : x ≡ nextOf n (heldTables n c f h₀) at) (l : x < n) where
-      new-loose : Loose (heldTables n c f h₀) x
-      new-loose = rw e (next-new n (heldTables n c f h₀) at (rw e at l) .1)
+    pub going-on : 0 < left → (f′ : List ℕ) (d : ℕ) → d ≡ deeper n at x deepest f → f′ ≡ reachedAt n at x f → Going n c top f₀ h₀ h f′ (missing - 1) (left - 1) x d
+    going-on some f′ d e g = rw (e, g) (reached-on some)
 
-      reach-is : walkStep n top (walkAt n c f h₀ at deepest) ≡ walkAt n c (reachedAt n at x f) h₀ x (deeper n at x deepest f)
-      unfolding reachNext
-      reach-is =
-          step-on n top (walkAt n c f h₀ at deepest) (rw e at l)
-          ∙ rw (← e, reached-tables n c f h₀ at x (at-on .in-range) l, deeper-is n c f h₀ at x deepest (at-on .in-range) (G .deep-in))
+  -- Nothing is next where none is missing.
+  none-next : missing ≡ 0 → n ≤ nextOf n (heldTables n c f h₀) at
+  none-next z = elim (decLt (nextOf n (heldTables n c f h₀) at) n) [
+    | yes l ↦ absurd (omega (arith, going-missing _ refl l))
+    | no l ↦ omega arith
+  ]
 
-      level-long : x < length (heldTables n c f h₀ .level)
-      level-long = omega (arith, G .standing .long-level)
-
-      placed-still : (v : ℕ) → T (placed (heldTables n c f h₀) v) → T (placed (heldTables n c (reachedAt n at x f) h₀) v)
-      placed-still v p =
-          let t = heldTables n c f h₀ in
-          rw (reached-tables n c f h₀ at x (at-on .in-range) l, placed-place-other x at (suc (rank t at)) t v (λ q. placed-loose t v p (rw q new-loose))) p
-
-      new-placed : T (placed (heldTables n c (reachedAt n at x f) h₀) x)
-      new-placed = rw (reached-tables n c f h₀ at x (at-on .in-range) l) (placed-place-same x at (suc (rank (heldTables n c f h₀) at)) (heldTables n c f h₀) level-long (omega arith))
-
-      -- x is placed, and its cursors are not kept yet.
-      abbrev put : List ℕ
-      put = putAt n x at (suc (getD f (n + at) 0)) f
-
-      other : (u : ℕ) → u < n → Placed n f u → u ≢ x
-      other u m p q = omega (arith, ap (λ (k : ℕ). getD f (n + k) 0) q, level-word (holds n c) f h₀ x l, new-loose)
-
-      put-grow : (u : ℕ) → u < n → Placed n f u → Placed n put u
-      put-grow u m p =
-          let d = other u m p in
-          omega (arith, put-same n f x l at (suc (getD f (n + at) 0)) (n + u) (omega arith) (omega arith))
-
-      put-on : (u : ℕ) → On n c h₀ f h u → On n c h₀ put h u × (getD put u 0 ≡ getD f u 0)
-      put-on u O =
-          let i = O .in-range in
-          let d = other u i (O .is-placed) in
-          let same = put-same n f x l at (suc (getD f (n + at) 0)) in
-          (on-kept (G .arranged) (put-frame n f x l at _) put-grow u _ _ i (O .is-placed) (same (14 * n + u) (omega arith) (omega arith)) (same (15 * n + u) (omega arith) (omega arith)) (O .behind), same u d (omega arith))
-
-      put-arranged : Arranged n c h₀ put h
-      put-arranged = framed-arranged (G .arranged) (omega arith) (put-frame n f x l at _)
-
-      reached-frame : Frame n 2 14 f (reachedAt n at x f)
-      unfolding reachedAt enteredAt
-      reached-frame = frame-trans (put-frame n f x l at _) (cursors-frame n put x l _ _)
-
-      reached-arranged : Arranged n c h₀ (reachedAt n at x f) h
-      unfolding reachedAt enteredAt
-      reached-arranged = cursors-arranged put-arranged x l _ _
-
-      reached-way : Way n c top h₀ (reachedAt n at x f) h x
-      unfolding reachedAt enteredAt
-      reached-way =
-          let s = leastOf n put x in
-          let g = startOf n put x in
-          let B = entered-behind put-arranged x l in
-          let q = G .arranged .long in
-          let parent : getD (cursorsAt n x s g put) x 0 ≡ at = cursors-same n put x l s g x (omega arith) (omega arith) ∙ put-parent n f x l at _ q in
-          below x (cursors-here put-arranged x l s g B (omega (arith, put-level n f x l at (suc (getD f (n + at) 0)) q)))
-          (rw parent (way-kept (cursors-on put-arranged x l s g B) (way-kept put-on (G .way))))
-
-      reached-on : Going n c top f₀ h₀ h (reachedAt n at x f) (left - 1) x (deeper n at x deepest f)
-      unfolding deeper
-      reached-on = record {
-        frame = frame-trans (G .frame) reached-frame;
-        arranged = reached-arranged;
-        steps = after (walkAt n c (reachedAt n at x f) h₀ x (deeper n at x deepest f)) reach-is;
-        standing = rw (reached-tables n c f h₀ at x (at-on .in-range) l) (standing-place x at (suc (rank (heldTables n c f h₀) at)) (G .standing) l new-loose (inr (at-on .in-range, at-placed, refl)));
-        way = reached-way;
-        deep-in = pick-all (λ d. d < n) (ltb (getD f (n + deepest) 0) (suc (getD f (n + at) 0))) x deepest l (G .deep-in);
-        deep-placed = pick-all (λ d. T (placed (heldTables n c (reachedAt n at x f) h₀) d)) (ltb (getD f (n + deepest) 0) (suc (getD f (n + at) 0))) x deepest new-placed (placed-still deepest (G .deep-placed));
-      }
-
-      pub going-on : (f′ : List ℕ) (d : ℕ) → d ≡ deeper n at x deepest f → f′ ≡ reachedAt n at x f → Going n c top f₀ h₀ h f′ (left - 1) x d
-      going-on f′ d e g = rw (e, g) reached-on
+-- Where none is missing the rest of the walk only goes back to the top.
+pub going-done : {n c top : ℕ} {f₀ h₀ h f : List ℕ} {missing at deepest : ℕ} (left : ℕ) → Going n c top f₀ h₀ h f missing left at deepest → missing ≡ 0 → WalkLeaves n c top deepest f₀ h₀ f
+going-done zero G z = going-ends G refl
+going-done {top = top} {at = at} (suc k) G z = elim (ℕ-discrete at top) [
+  | yes e ↦ going-rests G (none-next G z) e
+  | no d ↦
+      let one-less : suc k - 1 ≡ k = omega arith in
+      going-done k (rw one-less at (going-back G (omega arith) (none-next G z) d)) z
+]

@@ -1,4 +1,4 @@
--- `building::walk::after_at` meets its contract: the next smaller neighbour stands in the high part of the word.
+-- `building::walk::after_at` meets its contract: the next greater neighbour stands in the high part of the word.
 -- Assumes nothing.
 use native.Mathlib.Omega.{arith}
 use borrow.Author.Needs.{needs}

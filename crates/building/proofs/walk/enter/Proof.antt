@@ -1,4 +1,4 @@
--- `building::walk::enter` meets its contract: the first smaller neighbour and the first place.
+-- `building::walk::enter` meets its contract: the first greater neighbour and the first place.
 -- Assumes nothing.
 use Rattle.building.specs.Walk.{enteredAt}
 use borrow.Author.Needs.{needs}

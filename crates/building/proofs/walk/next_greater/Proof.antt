@@ -1,51 +1,68 @@
--- `building::walk::next_greater` meets its contract: each that it goes past is placed.
+-- `building::walk::next_greater` meets its contract: each that it goes past is placed, and the next one is greater.
 -- Assumes nothing.
 use borrow.Author.Needs.{needs}
-use Rattle.building.specs.Arranged.{startOf}
-use Rattle.building.specs.Walk.{Greater}
-use Rattle.building.specs.Laws.Seeking.{start-next, greater-more, seek-end, seek-in}
-use Prim.Native.Nat.{suc, _+_, _-_, _*_}
+use Rattle.building.specs.Laws.Seeking.{Moves, moves-through, moves-after, seek-at, seek-after, seek-found}
+use Prim.Native.Nat.{_+_, _-_, _*_, _<_}
 use native.Mathlib.Omega.{arith}
-use mathlib.Core.Path.{_≡_}
+use mathlib.Core.Path.{refl, sym, _∙_}
+use Rattle.building.specs.Arranged.{afterAt}
+use Rattle.building.specs.Walk.{Findable}
 use Rattle.building.proofs.walk.next_greater.Statement.{statement}
 use Rattle.building.proofs.walk.next_greater.Tie as tie
 use Rattle.building.proofs.walk.next_greater.Reads as reads
 use Rattle.building.proofs.walk.next_greater.Lts as lts
-use Rattle.building.proofs.walk.greater_at.Reads as greater-at-reads
+use Rattle.building.proofs.walk.after_at.Reads as after-at-reads
+use Rattle.building.proofs.walk.place_of.Reads as place-of-reads
 
 abbrev Inv-loop : tie.InvT-loop
-Inv-loop frag held n v end i₀ i = (end ≡ startOf n frag (suc v)) × Greater n frag held v i
+Inv-loop frag held n v g₀ g = Moves n v frag held g
 
 abbrev μ-loop : tie.MeasureT-loop
-μ-loop frag held n v end i₀ i = end - i
+μ-loop frag held n v g₀ g = n + 1 - g
 
-cast-end : tie.Need-cast-end Inv-loop μ-loop
-cast-end c = let a = c .before .before .before .args in omega (arith, start-next (a .n) (a .frag .now) (a .v), seek-end (c .before .before .before .pre))
+-- The greater neighbour that the cursor is at.
+neighbour : (c : tie.In-loop Inv-loop μ-loop) → let a = c .before .before .before .before .before .args in (c .before .loop .g - 1 < a .n) × Findable (a .n) (c .before .loop .g - 1) (a .v) (a .frag .now) (a .held .now)
+neighbour c = seek-at (c .before .before .before .before .before .pre) _ (c .before .loop .inv) (omega arith)
 
-cast-i : tie.Need-cast-i Inv-loop μ-loop
-cast-i c = let a = c .before .before .before .before .args in omega (arith, c .shared-slice-known4 .given (15 * a .n + a .v))
+-- The next one is greater.
+further : (c : tie.Else2 Inv-loop μ-loop) → (c .before .before .before .before .before .before .loop .g - 1 < afterAt (c .before .before .before .before .before .before .before .before .before .before .args .held .now) (c .before .before .place-of .result)) × (afterAt (c .before .before .before .before .before .before .before .before .before .before .args .held .now) (c .before .before .place-of .result) < c .before .before .before .before .before .before .before .before .before .before .args .n)
+further c = seek-after (c .before .before .before .before .before .before .before .before .before .before .pre) _ (c .before .before .before .before .before .before .loop .inv) (omega arith) (omega arith) _ (c .before .before .place-of .ensures) (λ e. c .if2 .left (c .before .after-at .ensures ∙ e))
 
-loop-holds : tie.Need-loop-holds Inv-loop μ-loop
-loop-holds c = let a = c .before .before .before .before .args in (start-next (a .n) (a .frag .now) (a .v), c .before .before .before .before .pre .behind .greater)
+cast-g : tie.Need-cast-g Inv-loop μ-loop
+cast-g c = let a = c .before .before .before .args in omega (arith, c .shared-slice-known3 .given (14 * a .n + a .v))
 
-greater-at-requires : tie.Need-greater-at-requires Inv-loop μ-loop
-greater-at-requires c κs = omega (arith, seek-end (c .before .before .before .before .before .before .pre))
+add-if1 : tie.Need-add-if1 Inv-loop μ-loop
+add-if1 c = omega (arith, neighbour c .0)
+
+mul-if1 : tie.Need-mul-if1 Inv-loop μ-loop
+mul-if1 c = omega (arith, neighbour c .0)
 
 shared-slice-read-if1 : tie.Need-shared-slice-read-if1 Inv-loop μ-loop
-shared-slice-read-if1 c =
-    let l = c .before .before .before .loop in
-    omega (arith, seek-in (c .before .before .before .before .before .before .before .before .pre) (l .i) (l .inv .1) (omega arith), c .before .greater-at .ensures)
+shared-slice-read-if1 c = omega (arith, neighbour (c .before) .0)
 
 returns : tie.Need-returns Inv-loop μ-loop
-returns c = record { loose = λ l. rw (← c .before .before .greater-at .ensures) (c .if1 .taken); behind = c .before .before .before .before .loop .inv .1 }
+returns c = seek-found (c .before .before .before .before .before .before .before .pre) _ (c .before .before .before .loop .inv) (λ d. c .if1 .taken)
 
-add-i-2 : tie.Need-add-i-2 Inv-loop μ-loop
-add-i-2 c = omega (arith, seek-end (c .before .before .before .before .before .before .before .before .before .pre))
+place-of-requires : tie.Need-place-of-requires Inv-loop μ-loop
+place-of-requires c κs = neighbour (c .before .before) .1
+
+after-at-requires : tie.Need-after-at-requires Inv-loop μ-loop
+after-at-requires c κs = omega (arith, c .place-of .ensures, neighbour (c .before .before .before) .1 .there)
+
+returns-2 : tie.Need-returns-2 Inv-loop μ-loop
+returns-2 c = seek-found (c .before .before .before .before .before .before .before .before .before .before .pre) _ (moves-through _ (omega arith) (c .before .before .before .before .before .before .loop .inv) (omega arith) _ (c .before .before .place-of .ensures) (sym (c .before .after-at .ensures) ∙ c .if2 .taken)) (λ d. absurd (d refl))
+
+add-g-2 : tie.Need-add-g-2 Inv-loop μ-loop
+add-g-2 c = omega (arith, further c, c .before .after-at .ensures)
+
+loop-less : tie.Need-loop-less Inv-loop μ-loop
+loop-less c = omega (arith, further c, c .before .after-at .ensures)
 
 loop-again : tie.Need-loop-again Inv-loop μ-loop
-loop-again c =
-    let l = c .before .before .before .before .loop in
-    (l .inv .0, greater-more _ _ _ _ _ (l .inv .1) (omega arith) (rw (← c .before .before .greater-at .ensures) (omega arith)))
+loop-again c = rw (c .before .after-at .ensures) (moves-after _ (omega arith) (c .before .before .before .before .before .before .loop .inv) (omega arith) _ (c .before .before .place-of .ensures) (λ e. c .if2 .left (c .before .after-at .ensures ∙ e)))
+
+returns-3 : tie.Need-returns-3 Inv-loop μ-loop
+returns-3 c = seek-found (c .before .before .before .before .before .pre) _ (rw (c .loop-test .left) at (c .before .loop .inv)) (λ d. absurd (d refl))
 
 pub next-greater-spec : {M : Type 1} → statement M
 next-greater-spec =
@@ -57,20 +74,17 @@ next-greater-spec =
     (λ c. search needs)
     (λ c. search needs)
     (λ c. search needs)
-    (λ c. search needs)
-    cast-end
-    (λ c. search needs)
+    cast-g
     (λ c. search needs)
     (λ c. search needs)
-    (λ c. search needs)
-    cast-i
-    loop-holds
-    greater-at-requires
-    (λ c. search needs)
-    (λ c. search needs)
+    add-if1
+    mul-if1
     shared-slice-read-if1
     returns
-    add-i-2
-    (λ c. search needs)
+    place-of-requires
+    after-at-requires
+    returns-2
+    add-g-2
+    loop-less
     loop-again
-    (λ c. search needs))
+    returns-3)

@@ -8,16 +8,16 @@ use Rattle.building.proofs.walk.place_of.Statement.{statement}
 use Rattle.building.proofs.walk.place_of.Tie as tie
 use Rattle.building.proofs.walk.place_of.Reads as reads
 use Rattle.building.proofs.walk.place_of.Lts as lts
-use Rattle.building.proofs.walk.greater_at.Reads as greater-at-reads
+use Rattle.building.proofs.walk.smaller_at.Reads as smaller-at-reads
 
 abbrev Inv-loop : tie.InvT-loop
-Inv-loop frag held n a v low₀ high₀ low high = Halved n a v frag held low high
+Inv-loop frag held n b v low₀ high₀ low high = Halved n b v frag held low high
 
 abbrev μ-loop : tie.MeasureT-loop
-μ-loop frag held n a v low₀ high₀ low high = high - low
+μ-loop frag held n b v low₀ high₀ low high = high - low
 
 cast-high : tie.Need-cast-high Inv-loop μ-loop
-cast-high c = let a = c .before .before .before .before .args in omega (arith, start-next (a .n) (a .frag .now) (a .a))
+cast-high c = let a = c .before .before .before .before .args in omega (arith, start-next (a .n) (a .frag .now) (a .b))
 
 loop-holds : tie.Need-loop-holds Inv-loop μ-loop
 loop-holds c = halved-none (c .before .before .before .before .pre)
@@ -25,12 +25,12 @@ loop-holds c = halved-none (c .before .before .before .before .pre)
 loop-again : tie.Need-loop-again Inv-loop μ-loop
 loop-again c =
     let l = c .before .before .before .loop in
-    halved-high (c .before .before .before .before .before .before .before .before .pre) (l .inv) _ (omega arith) (omega arith) (omega (arith, c .before .greater-at .ensures))
+    halved-high (c .before .before .before .before .before .before .before .before .pre) (l .inv) _ (omega arith) (omega arith) (omega (arith, c .before .smaller-at .ensures))
 
 loop-again-2 : tie.Need-loop-again-2 Inv-loop μ-loop
 loop-again-2 c =
     let l = c .before .before .before .loop in
-    halved-low (c .before .before .before .before .before .before .before .before .pre) (l .inv) _ (omega arith) (omega arith) (omega (arith, c .before .greater-at .ensures))
+    halved-low (c .before .before .before .before .before .before .before .before .pre) (l .inv) _ (omega arith) (omega arith) (omega (arith, c .before .smaller-at .ensures))
 
 returns : tie.Need-returns Inv-loop μ-loop
 returns c = halved-found (c .before .before .before .before .before .before .pre) (c .before .loop .inv) (omega arith)
