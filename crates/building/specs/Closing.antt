@@ -126,17 +126,20 @@ pub record Climbs (n top deepest : ℕ) (f f′ : List ℕ) : Type 0 where
 
 -- From here on h₀ is the held table as it was told, which only the proof knows, and h the arranged one in memory.
 
--- A piece is placed from its top.
-pub record Hanging (n c top note : ℕ) (f h₀ h : List ℕ) : Type 0 where
+-- The piece p is placed from its top.
+pub record Hanging (n c p top note : ℕ) (f h₀ h : List ℕ) : Type 0 where
   pub arranged : Arranged n c h₀ f h
   pub standing : Standing n (heldTables n c f h₀)
+  pub chained : Chained n p f
+  pub labels : labelsIn n f ≡ pieces n (heldTables n c f h₀ .held)
+  pub top-of : labelAt n f top ≡ p
   pub note-in : note ≤ n
   pub ready : Ready n top (hang top note (heldTables n c f h₀))
 
 -- Some links stand arranged along which it can be placed.
-pub record MayHang (n c top note : ℕ) (f h : List ℕ) : Type 0 where
+pub record MayHang (n c p top note : ℕ) (f h : List ℕ) : Type 0 where
   pub told : List ℕ
-  pub hanging : Hanging n c top note f told h
+  pub hanging : Hanging n c p top note f told h
 
 abbrev pub walkOf : (n top note : ℕ) → Tables → Walk
 walkOf n top note t = walked n top (hang top note t)
@@ -146,20 +149,10 @@ pub record WholeLeaves (n c top note : ℕ) (f h₀ f′ : List ℕ) : Type 0 wh
   pub beside : Beside n f f′
 
 -- Whatever links stand so.
-abbrev pub PlacesWhole : (n c top note : ℕ) (f h f′ : List ℕ) → Type 0
-PlacesWhole n c top note f h f′ = (h₀ : List ℕ) → Hanging n c top note f h₀ h → WholeLeaves n c top note f h₀ f′
+abbrev pub PlacesWhole : (n c p top note : ℕ) (f h f′ : List ℕ) → Type 0
+PlacesWhole n c p top note f h f′ = (h₀ : List ℕ) → Hanging n c p top note f h₀ h → WholeLeaves n c top note f h₀ f′
 
--- Of the piece p only the path is placed.
-pub record Losing (n c p top note : ℕ) (f h₀ h : List ℕ) : Type 0 where
-  pub hanging : Hanging n c top note f h₀ h
-  pub chained : Chained n p f
-  pub labels : labelsIn n f ≡ pieces n (heldTables n c f h₀ .held)
-  pub top-of : labelAt n f top ≡ p
-
-pub record MayLose (n c p top note : ℕ) (f h : List ℕ) : Type 0 where
-  pub told : List ℕ
-  pub losing : Losing n c p top note f told h
-
+-- Of a lost piece only the path is placed.
 pub record PathLeaves (n c top note : ℕ) (f h₀ f′ : List ℕ) : Type 0 where
   pub tables : heldTables n c f′ h₀ ≡
       placePath (walkOf n top note (heldTables n c f h₀) .tables)
@@ -168,7 +161,7 @@ pub record PathLeaves (n c top note : ℕ) (f h₀ f′ : List ℕ) : Type 0 whe
   pub beside : Beside n f f′
 
 abbrev pub PlacesPath : (n c p top note : ℕ) (f h f′ : List ℕ) → Type 0
-PlacesPath n c p top note f h f′ = (h₀ : List ℕ) → Losing n c p top note f h₀ h → PathLeaves n c top note f h₀ f′
+PlacesPath n c p top note f h f′ = (h₀ : List ℕ) → Hanging n c p top note f h₀ h → PathLeaves n c top note f h₀ f′
 
 -- The close comes to the piece p.
 pub record Due (n c p : ℕ) (f h₀ h : List ℕ) : Type 0 where

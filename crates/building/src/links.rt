@@ -1,4 +1,3 @@
-// NOTE FROM THE LEAD: the brief changed, read /tmp/brief/index.md again (part 1 is open addressing now); then delete this line.
 // The test of the held links: their ends, none twice, and no piece over its quota.
 ghost use Prim.Native.Nat.{_-_, _<_, _≤_};
 ghost use mathlib.Core.List.{map};
@@ -10,7 +9,7 @@ ghost use Rattle.state.specs.Test.{endsFit, quotaFits};
 ghost use Rattle.state.specs.Laws.Tests.{Room};
 ghost use Rattle.building.specs.Pieces.{Pointing};
 ghost use Rattle.building.specs.Index.{Open, Indexed};
-ghost use Rattle.building.specs.Batches.{Batchable, Batches, Recalls, Misses, Comparable, Compares};
+ghost use Rattle.building.specs.Batches.{classesMost, classOf, Batchable, Batches, Recalls, Missable, Misses, Comparable, Sifts, Compares};
 ghost use Rattle.building.specs.Check.{linkFits, pieceFits, Tells, linksFit, Lookable, Readable};
 use crate::index::look;
 use crate::pieces::gather;
@@ -83,18 +82,16 @@ pub(crate) fn is_among(held: &[u32], from: usize, to: usize, a: usize, b: usize)
     false
 }
 
-// Where a batch of at most so many words ends.
-fn batch_end(base: usize, count: usize, most: usize) -> usize
-    requires { ⌜ base < count ⌝ }
-    ensures { λ r. ⌜ (r ≤ count) × (0 < most → base < r) ⌝ }
+// Which of so many classes a word is in: equal words are in one. The factor is not that of `home`, so that the words of a class spread over all slots.
+fn class_of(classes: usize, w: u32) -> usize
+    requires { ⌜ classes ≤ classesMost ⌝ }
+    ensures { λ r. ⌜ r ≡ classOf classes w ⌝ }
 {
-    if count - base <= most {
-        return count;
-    }
-    base + most
+    let spread = w as u64 * 2246822519 % 4294967296;
+    (spread * classes as u64 / 4294967296) as usize
 }
 
-// Held words from one place on are noted, to another or until one finds no slot. Returns where it stopped; 0 where a word was noted already.
+// Held words of class c from one place on are noted, to another or until one finds no slot. Returns where it stopped; 0 where a word was noted already.
 fn note_batch(
     frag: &mut [u32],
     held: &[u32],
@@ -102,13 +99,19 @@ fn note_batch(
     size: usize,
     from: usize,
     to: usize,
+    c: usize,
+    classes: usize,
 ) -> usize
-    requires { ⌜ Batchable at size from to (now frag) (now held) ⌝ }
-    ensures { λ r. ⌜ Batches at size from to (now (frag .entry)) (now (held .entry)) r (now (frag .exit)) ⌝ }
+    requires { ⌜ Batchable at size from to classes (now frag) (now held) ⌝ }
+    ensures { λ r. ⌜ Batches at size from to c classes (now (frag .entry)) (now (held .entry)) r (now (frag .exit)) ⌝ }
 {
     let mut i = from;
     while i < to {
         let w = held[i];
+        if class_of(classes, w) != c {
+            i += 1;
+            continue;
+        }
         let s = look(frag, at, size, w);
         if s == size {
             return i;
@@ -133,14 +136,28 @@ fn is_noted(frag: &[u32], at: usize, size: usize, w: u32) -> bool
     frag[at + s] != 0
 }
 
-// None of the held words from one place to another is noted.
-fn none_noted(frag: &[u32], held: &[u32], at: usize, size: usize, from: usize, to: usize) -> bool
-    requires { ⌜ Open at size (now frag) × Indexed at size (now frag) × (from ≤ to) × (to ≤ length (now held)) ⌝ }
-    ensures { λ r. ⌜ Misses at size from to (now (frag .entry)) (now (held .entry)) r ⌝ }
+// None of the held words of class c from one place to another is noted.
+fn none_noted(
+    frag: &[u32],
+    held: &[u32],
+    at: usize,
+    size: usize,
+    from: usize,
+    to: usize,
+    c: usize,
+    classes: usize,
+) -> bool
+    requires { ⌜ Missable at size from to classes (now frag) (now held) ⌝ }
+    ensures { λ r. ⌜ Misses at size from to c classes (now (frag .entry)) (now (held .entry)) r ⌝ }
 {
     let mut i = from;
     while i < to {
-        if is_noted(frag, at, size, held[i]) {
+        let w = held[i];
+        if class_of(classes, w) != c {
+            i += 1;
+            continue;
+        }
+        if is_noted(frag, at, size, w) {
             return false;
         }
         i += 1;
@@ -148,23 +165,45 @@ fn none_noted(frag: &[u32], held: &[u32], at: usize, size: usize, from: usize, t
     true
 }
 
-// 'none twice': a batch of links is noted in scratch, and each link behind it is looked up there.
-fn none_twice(frag: &mut [u32], held: &[u32], n: usize, count: usize) -> bool
-    requires { ⌜ Comparable n count (now frag) (now held) ⌝ }
-    ensures { λ r. ⌜ Compares n count (now (frag .entry)) (now (held .entry)) r (now (frag .exit)) ⌝ }
+// No word of class c is held twice. As a rule one batch notes them all. Where one finds no slot, those behind the batch are looked up, and noted in further batches.
+fn class_differs(
+    frag: &mut [u32],
+    held: &[u32],
+    n: usize,
+    count: usize,
+    c: usize,
+    classes: usize,
+) -> bool
+    requires { ⌜ Comparable n count (now frag) (now held) × (classes ≤ classesMost) ⌝ }
+    ensures { λ r. ⌜ Sifts n count c classes (now (frag .entry)) (now (held .entry)) r (now (frag .exit)) ⌝ }
 {
     let mut base = 0;
     while base < count {
-        let to = batch_end(base, count, 6 * n);
-        let end = note_batch(frag, held, 4 * n, 12 * n, base, to);
+        let end = note_batch(frag, held, 4 * n, 12 * n, base, count, c, classes);
         if end == 0 {
             return false;
         }
-        if !none_noted(frag, held, 4 * n, 12 * n, end, count) {
+        if !none_noted(frag, held, 4 * n, 12 * n, end, count, c, classes) {
             return false;
         }
         wipe(frag, 4 * n, 16 * n);
         base = end;
+    }
+    true
+}
+
+// 'none twice', class by class. A class has some 4n words, which the 12n slots hold; n may be 0.
+fn none_twice(frag: &mut [u32], held: &[u32], n: usize, count: usize) -> bool
+    requires { ⌜ Comparable n count (now frag) (now held) ⌝ }
+    ensures { λ r. ⌜ Compares n count (now (frag .entry)) (now (held .entry)) r (now (frag .exit)) ⌝ }
+{
+    let classes = count / (4 * n + 1) + 1;
+    let mut c = 0;
+    while c < classes {
+        if !class_differs(frag, held, n, count, c, classes) {
+            return false;
+        }
+        c += 1;
     }
     true
 }

@@ -1,6 +1,9 @@
 // The members of each piece, chained by rising number in section 8. Labels stand in section 7.
+ghost use mathlib.Core.Path.{_≡_};
 ghost use Prim.Native.Nat.{_<_};
-ghost use Rattle.building.specs.Closing.{Membered, Chainable, Chains, Follows};
+ghost use Rattle.rules.specs.Building.{sizeOf};
+ghost use Rattle.state.specs.Layout.{section};
+ghost use Rattle.building.specs.Closing.{Membered, Chainable, Chains, Follows, Chained};
 ghost use Rattle.building.specs.Walk.{Wide};
 use crate::tables::wide;
 
@@ -28,4 +31,18 @@ pub(crate) fn next_member(frag: &[u32], n: usize, v: usize) -> usize
         return n;
     }
     next - 1
+}
+
+// How many members the piece p has.
+pub(crate) fn size_of(frag: &[u32], n: usize, p: usize) -> usize
+    requires { ⌜ Chained n p (now frag) ⌝ }
+    ensures { λ r. ⌜ (r ≡ sizeOf n (section n 7 (now (frag .entry))) p) × (0 < r) ⌝ }
+{
+    let mut size = 0;
+    let mut v = p;
+    while v < n {
+        size += 1;
+        v = next_member(frag, n, v);
+    }
+    size
 }

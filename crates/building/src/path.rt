@@ -1,11 +1,12 @@
 // Placing a piece: the whole walk, or only the path to its deepest member, with the members' forest saved in sections 12 and 13 meanwhile.
 ghost use mathlib.Core.Path.{_≡_};
 ghost use Prim.Native.Nat.{_<_};
-ghost use Rattle.building.specs.Closing.{Chained, Copyable, copiedAt, Copies, Climbable, Climbs, MayHang, PlacesWhole, MayLose, PlacesPath, MayPlace, PlacesPiece};
+ghost use Rattle.building.specs.Closing.{Chained, Copyable, copiedAt, Copies, Climbable, Climbs, MayHang, PlacesWhole, PlacesPath, MayPlace, PlacesPiece};
 use crate::choose::best_note;
 use crate::choose::is_lost;
 use crate::choose::top_of;
 use crate::members::next_member;
+use crate::members::size_of;
 use crate::walk::hang;
 use crate::walk::walk;
 
@@ -55,23 +56,34 @@ fn place_path(
     top: usize,
     note: usize,
 )
-    requires { ⌜ MayLose n count p top note (now frag) (now held) ⌝ }
+    requires { ⌜ MayHang n count p top note (now frag) (now held) ⌝ }
     ensures { λ r. ⌜ PlacesPath n count p top note (now (frag .entry)) (now (held .entry)) (now (frag .exit)) ⌝ }
 {
+    let size = size_of(frag, n, p);
     copy_members(frag, n, p, 0, 12 * n);
     hang(frag, n, top, note);
-    let deepest = walk(frag, held, n, count, top);
+    // All members but the top are missing.
+    let deepest = walk(frag, held, n, count, top, size - 1);
     climb(frag, n, top, deepest);
     copy_members(frag, n, p, 12 * n, 0);
 }
 
 // Of a piece that is not lost the whole walk is placed.
-fn place_whole(frag: &mut [u32], held: &[u32], n: usize, count: usize, top: usize, note: usize)
-    requires { ⌜ MayHang n count top note (now frag) (now held) ⌝ }
-    ensures { λ r. ⌜ PlacesWhole n count top note (now (frag .entry)) (now (held .entry)) (now (frag .exit)) ⌝ }
+fn place_whole(
+    frag: &mut [u32],
+    held: &[u32],
+    n: usize,
+    count: usize,
+    p: usize,
+    top: usize,
+    note: usize,
+)
+    requires { ⌜ MayHang n count p top note (now frag) (now held) ⌝ }
+    ensures { λ r. ⌜ PlacesWhole n count p top note (now (frag .entry)) (now (held .entry)) (now (frag .exit)) ⌝ }
 {
+    let size = size_of(frag, n, p);
     hang(frag, n, top, note);
-    walk(frag, held, n, count, top);
+    walk(frag, held, n, count, top, size - 1);
 }
 
 // The piece with smallest member p is placed.
@@ -84,6 +96,6 @@ pub(crate) fn place_piece(frag: &mut [u32], held: &[u32], n: usize, count: usize
     if is_lost(frag, n, p) {
         place_path(frag, held, n, count, p, top, note);
     } else {
-        place_whole(frag, held, n, count, top, note);
+        place_whole(frag, held, n, count, p, top, note);
     }
 }

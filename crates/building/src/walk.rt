@@ -154,7 +154,14 @@ fn reach(frag: &mut [u32], n: usize, at: usize, x: usize, deepest: usize) -> usi
 }
 
 // The whole walk from a top that is placed; the deepest member. At most `missing` members of its piece are not reached yet: it ends with the last of them.
-pub(crate) fn walk(frag: &mut [u32], held: &[u32], n: usize, count: usize, top: usize, mut missing: usize) -> usize
+pub(crate) fn walk(
+    frag: &mut [u32],
+    held: &[u32],
+    n: usize,
+    count: usize,
+    top: usize,
+    mut missing: usize,
+) -> usize
     requires { ⌜ MayWalk n count top missing (now frag) (now held) ⌝ }
     ensures { λ r. ⌜ Walks n count top missing r (now (frag .entry)) (now (held .entry)) (now (frag .exit)) ⌝ }
 {

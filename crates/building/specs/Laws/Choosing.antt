@@ -1,4 +1,4 @@
--- What a close finds along a piece's members: its best note, its top, its lost mark.
+-- What a close finds along a piece's members: its size, its best note, its top, its lost mark.
 -- Assumes nothing.
 use Prim.Native.Nat.{ℕ, zero, suc, pred, _+_, _-_, _*_, _≤_, _<_}
 use mathlib.Core.Path.{_≡_, refl, sym, ap, _∙_}
@@ -11,11 +11,11 @@ use lib.Dec.{T, eqb, eqb→eq, lt→ltb, ltb→lt}
 use lib.ListN.{getD}
 use Rattle.base.specs.Pick.{pick-true, pick-false, tests}
 use Rattle.base.specs.Truth.{and-intro, and-l, and-r, T-true, T-false, eq→eqb}
-use Rattle.rules.specs.Search.{first}
+use Rattle.rules.specs.Search.{count, first}
 use Rattle.rules.specs.Tables.{Tables, rank, noteOf, markOf}
-use Rattle.rules.specs.Building.{better, noted, member, lost, topOf}
+use Rattle.rules.specs.Building.{member, sizeOf, better, noted, lost, topOf}
 use Rattle.rules.specs.Laws.Pieces.{member-intro, member-elim}
-use Rattle.rules.specs.Laws.Search.{first-le, first-passes, first-least, some-intro, some-elim}
+use Rattle.rules.specs.Laws.Search.{count-le, count-zero, count-yes, count-no, some-count, first-le, first-passes, first-least, some-intro, some-elim}
 use Rattle.state.specs.Layout.{section, forestIn, bare}
 use Rattle.state.specs.Laws.Layout.{section-at, level-word, note-word, mark-word}
 use Rattle.building.specs.Closing.{labelsIn, labelAt, Follows, Chained, firstNoted, topBy}
@@ -93,6 +93,10 @@ module _ (n : ℕ) (f : List ℕ) (p v : ℕ) (l : v < n) where
   pub member-label : T (member (section n 7 f) p v) → labelAt n f v ≡ p
   member-label m = label-by n f refl v l ∙ member-elim (section n 7 f) p v m
 
+-- How many members are below v.
+abbrev pub Counted : (n : ℕ) (f : List ℕ) (p size v : ℕ) → Type 0
+Counted n f p size v = size ≡ count (member (section n 7 f) p) v
+
 -- The best note of the members below v.
 abbrev pub BestNote : (n : ℕ) (f : List ℕ) (p best v : ℕ) → Type 0
 BestNote n f p best v = best ≡ noted (forestIn n f) (section n 7 f) p v
@@ -106,6 +110,12 @@ NoneMarked n f p v = (k : ℕ) → k < v → labelAt n f k ≡ p → getD f (3 *
 
 -- They start at the smallest member.
 module _ (n p : ℕ) (f : List ℕ) (C : Chained n p f) where
+  pub counted-start : Counted n f p 0 p
+  counted-start =
+      skip (Counted n f p 0) 0 p (omega arith)
+      (λ k g l e. e ∙ sym (count-no (member (section n 7 f) p) k (λ m. C .least k l (member-label n f p k (omega (arith, C .in-range)) m))))
+      (sym (count-zero (member (section n 7 f) p)))
+
   pub best-start : BestNote n f p 0 p
   best-start =
       skip (BestNote n f p 0) 0 p (omega arith)
@@ -120,6 +130,12 @@ module _ (n p : ℕ) (f : List ℕ) (C : Chained n p f) where
 
 -- And go on from a member to the next.
 module _ (n p : ℕ) (f : List ℕ) (v r : ℕ) (A : Along n p f v) (l : v < n) (F : Follows n v f r) where
+  pub counted-next : (size : ℕ) → Counted n f p size v → Counted n f p (size + 1) r
+  counted-next size e =
+      skip (Counted n f p (size + 1)) (suc v) r (F .on)
+      (λ k a b q. q ∙ sym (count-no (member (section n 7 f) p) k (λ m. none-between A l F k a b (member-label n f p k (omega (arith, F .within)) m))))
+      (omega (arith, e, count-yes (member (section n 7 f) p) v (label-member n f p v l (A .member l))))
+
   pub best-next : (best x : ℕ) → BestNote n f p best v → x ≡ better (forestIn n f) best (getD f (2 * n + v) 0) → BestNote n f p x r
   best-next best x e g =
       skip (BestNote n f p x) (suc v) r (F .on)
@@ -141,6 +157,14 @@ module _ (n p : ℕ) (f : List ℕ) (v r : ℕ) (A : Along n p f v) (l : v < n) 
 
   pub none-marked-next : NoneMarked n f p v → getD f (3 * n + v) 0 ≡ 0 → NoneMarked n f p r
   none-marked-next h d k g m = elim (cases k g m) [ inl a ↦ h k a m | inr q ↦ rw q d ]
+
+-- No more members than fragments, and p is one.
+pub counted-few : (n : ℕ) (f : List ℕ) (p size v : ℕ) → Counted n f p size v → size ≤ v
+counted-few n f p size v e = omega (arith, count-le (member (section n 7 f) p) v)
+
+pub counted-all : (n : ℕ) (f : List ℕ) (p size : ℕ) → Chained n p f → Counted n f p size n → (size ≡ sizeOf n (section n 7 f) p) × (0 < size)
+unfolding sizeOf
+counted-all n f p size C e = (e, omega (arith, some-count (member (section n 7 f) p) n p (C .in-range) (label-member n f p p (C .in-range) (C .own))))
 
 -- What is found first is the first.
 pub first-is : (p : ℕ → Bool) (n r : ℕ) → r ≤ n → (r < n → T (p r)) → ((k : ℕ) → k < r → T (p k) → ⊥) → r ≡ first p n

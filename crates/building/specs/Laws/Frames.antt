@@ -9,10 +9,11 @@ use lib.ListN.{length, getD, drop, length-drop}
 use lib.Seq.{ext-getD, getD-drop}
 use Rattle.state.specs.Layout.{section}
 use Rattle.state.specs.Laws.Layout.{section-length, section-at}
-use Rattle.building.specs.Arranged.{startOf, leastOf, Arranged, Frame}
+use Rattle.building.specs.Arranged.{Arranged, Frame}
 use Rattle.building.specs.Closing.{Chained, Beside}
 use Rattle.building.specs.Walk.{Wide}
 use Rattle.building.specs.Laws.Members.{membered-by}
+use Rattle.building.specs.Laws.Walking.{arranged-kept}
 
 -- Parts of tables that are equal word by word.
 pub section-by : (n j i : ℕ) (f g : List ℕ) → suc j * n ≤ length f → suc i * n ≤ length g → ((v : ℕ) → v < n → getD f (j * n + v) 0 ≡ getD g (i * n + v) 0) → section n j f ≡ section n i g
@@ -72,24 +73,4 @@ chained-by {n} {p} long e C = record {
 
 -- The arranged links look only at the sections 4 to 6.
 pub arranged-beside : {n c : ℕ} {h₀ f f′ h : List ℕ} → 0 < n → Beside n f f′ → Arranged n c h₀ f h → Arranged n c h₀ f′ h
-arranged-beside {n} {c} {h₀} {f} {f′} {h} some B A =
-    let start : (v : ℕ) → v ≤ n → startOf n f′ v ≡ startOf n f v = λ v l. B .within (4 * n + v) (omega arith) (omega arith) in
-    let few : (v : ℕ) → v < n → leastOf n f′ v ≡ leastOf n f v = λ v l. B .within (6 * n + v) (omega arith) (omega arith) in
-    record {
-      few = A .few;
-      long = omega (arith, A .long, B .same-long);
-      there = A .there;
-      among = A .among;
-      ordered = λ v l. rw (start v (omega arith), start (suc v) (omega arith)) (A .ordered v l);
-      last = rw (start n (omega arith)) (A .last);
-      greater = λ v i l a b. A .greater v i l (omega (arith, start v (omega arith))) (omega (arith, start (suc v) (omega arith)));
-      rising = λ v i j l a b d. A .rising v i j l (omega (arith, start v (omega arith))) b (omega (arith, start (suc v) (omega arith)));
-      found = λ v w l t.
-          let k = A .among v w t .0 in
-          let (i, a, b, d) = A .found v w l t in
-          (i, omega (arith, start v (omega arith)), omega (arith, start (suc v) (omega arith)), d);
-      no-least = λ b l z. A .no-least b l (sym (few b l) ∙ z);
-      least = λ b a l z. A .least b a l (sym (few b l) ∙ z);
-      no-after = λ a i l x y. A .no-after a i l (omega (arith, start a (omega arith))) (omega (arith, start (suc a) (omega arith)));
-      after = λ a i l x y. A .after a i l (omega (arith, start a (omega arith))) (omega (arith, start (suc a) (omega arith)));
-    }
+arranged-beside some B A = arranged-kept A some _ (B .same-long) (λ i a b. B .within i (omega arith) (omega arith))

@@ -21,7 +21,7 @@ use Rattle.rules.specs.Laws.Close.{lost-same, not-placed, ready-at, closing}
 use Rattle.rules.specs.Laws.CloseAny.{shown, learnt-shown}
 use Rattle.state.specs.Layout.{tablesIn, forestIn, bare}
 use Rattle.state.specs.Laws.Layout.{level-word}
-use Rattle.building.specs.Closing.{labelsIn, labelAt, Chained, topBy, dueAt, Beside, Hanging, Losing, PathLeaves, WholeLeaves, Due, PieceLeaves, Closable, AllLeaves}
+use Rattle.building.specs.Closing.{labelsIn, labelAt, Chained, topBy, dueAt, Beside, Hanging, PathLeaves, WholeLeaves, Due, PieceLeaves, Closable, AllLeaves}
 use Rattle.building.specs.Telling.{heldTables}
 use Rattle.building.specs.Walk.{Wide}
 use Rattle.building.specs.Laws.Members.{membered-by}
@@ -39,9 +39,6 @@ module _ (n c p : ℕ) (f h₀ h : List ℕ) (D : Due n c p f h₀ h) (note top 
   unfolding tablesIn
   top-is = et ∙ top-by n (forestIn n f) (heldTables n c f h₀) (labelsIn n f) p note refl note-is
 
-  pub due-hanging : note ≤ n → Hanging n c top note f h₀ h
-  due-hanging l = record { arranged = D .arranged; standing = D .standing; note-in = l; ready = rw (top-is, note-is) (D .ready) }
-
   -- The top is a member.
   top-label : (x : ℕ) → note ≡ x → labelAt n f top ≡ p
   top-label zero e = rw (top-is, top-none (heldTables n c f h₀) (labelsIn n f) p n (sym note-is ∙ e)) (D .noting .chained .own)
@@ -49,8 +46,16 @@ module _ (n c p : ℕ) (f h₀ h : List ℕ) (D : Due n c p f h₀ h) (note top 
       let (l, m, _) = top-noted (heldTables n c f h₀) (labelsIn n f) p n q (sym note-is ∙ e) in
       rw top-is (member-label n f p (topOf n (heldTables n c f h₀) (labelsIn n f) p) l m)
 
-  pub due-losing : note ≤ n → Losing n c p top note f h₀ h
-  due-losing l = record { hanging = due-hanging l; chained = D .noting .chained; labels = D .labels; top-of = top-label note refl }
+  pub due-hanging : note ≤ n → Hanging n c p top note f h₀ h
+  due-hanging l = record {
+    arranged = D .arranged;
+    standing = D .standing;
+    chained = D .noting .chained;
+    labels = D .labels;
+    top-of = top-label note refl;
+    note-in = l;
+    ready = rw (top-is, note-is) (D .ready);
+  }
 
   lost-is : lost n (forestIn n f) (labelsIn n f) p ≡ lost n (heldTables n c f h₀) (labelsIn n f) p
   unfolding tablesIn

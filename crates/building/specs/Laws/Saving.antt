@@ -2,27 +2,32 @@
 -- Assumes nothing.
 use Prim.Native.Nat.{ℕ, zero, suc, _+_, _-_, _*_, _≤_, _<_}
 use mathlib.Core.Path.{_≡_, refl, sym, ap, _∙_, subst}
+use mathlib.Core.Bool.{Bool, true, _&&_, not}
 use mathlib.Core.List.{List}
 use mathlib.Core.Logic.{inr, _≢_}
 use native.Mathlib.Omega.{arith}
 use native.Mathlib.Decide.{ℕ-discrete}
 use native.Mathlib.Nat.{mul-le-mul-right}
-use lib.Dec.{eqb}
+use borrow.Author.Tests.{ne-eqb}
+use lib.Dec.{T, eqb, eqb→eq, eqb-refl, not-T, T-not}
 use lib.ListN.{length, getD, drop}
 use lib.Seq.{ext-getD}
 use Rattle.base.specs.Pick.{pick-all}
+use Rattle.base.specs.Truth.{and-intro, and-l, and-r, T-ext}
 use Rattle.rules.specs.Links.{Link, linked, JoinedBy, here}
-use Rattle.rules.specs.Tables.{Tables, parentOf, rank, place}
-use Rattle.rules.specs.Building.{Walk, hang, walked, placePath}
+use Rattle.rules.specs.Search.{count}
+use Rattle.rules.specs.Tables.{Tables, parentOf, rank, placed, place}
+use Rattle.rules.specs.Building.{Walk, pieces, member, sizeOf, hang, walked, placePath}
 use Rattle.rules.specs.Laws.Facts.{Walked}
-use Rattle.rules.specs.Laws.Pieces.{joined-label}
+use Rattle.rules.specs.Laws.Search.{count-mono, count-one-more}
+use Rattle.rules.specs.Laws.Pieces.{joined-label, member-intro}
 use Rattle.rules.specs.Laws.Walk.{walk}
 use Rattle.rules.specs.Laws.Tables.{rank-most, parentOf-place-same, parentOf-place-other, rank-place-same, rank-place-other, place-length, place-held}
 use Rattle.state.specs.Layout.{section, tablesIn}
 use Rattle.state.specs.Laws.Layout.{section-length, section-at, tables-are, parent-word, level-word}
 use Rattle.building.specs.Arranged.{Frame}
-use Rattle.building.specs.Closing.{labelAt, Chained, Copies, savedAt, Beside, Climbable, Climbs, Hanging, Losing, walkOf, PathLeaves, WholeLeaves}
-use Rattle.building.specs.Walk.{Wide, hungAt, Hangable, Walkable, WalkLeaves}
+use Rattle.building.specs.Closing.{labelsIn, labelAt, Chained, Copies, savedAt, Beside, Climbable, Climbs, Hanging, walkOf, PathLeaves, WholeLeaves}
+use Rattle.building.specs.Walk.{Wide, hungAt, Hangable, waits, unreached, Walkable, WalkLeaves}
 use Rattle.building.specs.Telling.{heldTables, holds}
 use Rattle.building.specs.Laws.Choosing.{label-by}
 use Rattle.building.specs.Laws.Walking.{bare-standing, bare-rank, bare-placed, hung-tables, hung-kept, hung-long}
@@ -96,8 +101,33 @@ module _ (top note : ℕ) (s : Tables) where
   unfolding hang
   hang-held = pick-all (λ (t : Tables). t .held ≡ s .held) (eqb note 0) _ _ (place-held top top 1 s) (place-held top _ _ s)
 
+-- Where the top is placed, fewer members wait to be reached than the piece has.
+module _ (n : ℕ) (t : Tables) (top : ℕ) (l : top < n) (there : T (placed t top)) where
+  abbrev own : ℕ → Bool
+  own = member (pieces n (t .held)) (getD (pieces n (t .held)) top 0)
+
+  abbrev others : ℕ → Bool
+  others v = own v && not (eqb v top)
+
+  waits-other : (v : ℕ) → T (waits n t top v) → T (others v)
+  unfolding waits
+  waits-other v w =
+      and-intro (own v) (not (eqb v top)) (and-l (own v) (not (placed t v)) w)
+      (not-T (eqb v top) (λ e. T-not (placed t v) (and-r (own v) (not (placed t v)) w) (rw (eqb→eq v top e) there)))
+
+  all-but-top : count own n ≡ suc (count others n)
+  all-but-top =
+      count-one-more others own n top l
+      (λ o. T-not (eqb top top) (and-r (own top) (not (eqb top top)) o) (eqb-refl top))
+      (member-intro (pieces n (t .held)) (getD (pieces n (t .held)) top 0) top refl)
+      (λ v g d. rw (ne-eqb v top d) (T-ext _ _ (and-l (own v) true) (λ m. and-intro (own v) true m tt)))
+
+  unreached-few : unreached n t top < sizeOf n (pieces n (t .held)) (getD (pieces n (t .held)) top 0)
+  unfolding unreached sizeOf
+  unreached-few = omega (arith, all-but-top, count-mono (waits n t top) others n (λ v g. waits-other v))
+
 -- A piece is placed: its top is hung and it is walked, in a table f₁ that holds what f does.
-module _ (n c top note : ℕ) (f h₀ h : List ℕ) (W : Hanging n c top note f h₀ h) (f₁ : List ℕ) (same : heldTables n c f₁ h₀ ≡ heldTables n c f h₀) (apart : Beside n f f₁) where
+module _ (n c p top note : ℕ) (f h₀ h : List ℕ) (W : Hanging n c p top note f h₀ h) (f₁ : List ℕ) (same : heldTables n c f₁ h₀ ≡ heldTables n c f h₀) (apart : Beside n f f₁) where
   wide-now : {g : List ℕ} → length g ≡ length f → Wide n g
   wide-now e = record { few = W .arranged .few; long = omega (arith, W .arranged .long) }
 
@@ -109,6 +139,12 @@ module _ (n c top note : ℕ) (f h₀ h : List ℕ) (W : Hanging n c top note f 
     levels = λ v l. rw (bare-rank n c f₁ h₀ v, same) (rank-most (W .standing) v l);
   }
 
+  -- The top's piece is p.
+  hung-size : sizeOf n (pieces n (hang top note (heldTables n c f h₀) .held)) (getD (pieces n (hang top note (heldTables n c f h₀) .held)) top 0) ≡ sizeOf n (labelsIn n f) p
+  hung-size =
+      let e : pieces n (hang top note (heldTables n c f h₀) .held) ≡ labelsIn n f = ap (pieces n) (hang-held top note (heldTables n c f h₀)) ∙ sym (W .labels) in
+      rw e (ap (sizeOf n (labelsIn n f)) (sym (label-by n f refl top (W .ready .top-in)) ∙ W .top-of))
+
   module _ (f₂ : List ℕ) (e₂ : f₂ ≡ hungAt n top note f₁) where
     hung-now : heldTables n c f₂ h₀ ≡ hang top note (heldTables n c f h₀)
     hung-now = ap (λ (g : List ℕ). heldTables n c g h₀) e₂ ∙ hung-tables n c f₁ h₀ top note (W .ready .top-in) (W .note-in) ∙ ap (hang top note) same
@@ -116,12 +152,13 @@ module _ (n c top note : ℕ) (f h₀ h : List ℕ) (W : Hanging n c top note f 
     hung-frame : Frame n 2 14 f₁ f₂
     hung-frame = low-frame n f₁ f₂ (ap length e₂ ∙ hung-long n f₁ top note) (ap (drop (2 * n)) e₂ ∙ hung-kept n f₁ top note (W .ready .top-in))
 
-    pub hung-walkable : Walkable n c top f₂ h₀ h
-    hung-walkable = record {
+    pub hung-walkable : (size : ℕ) → size ≡ sizeOf n (labelsIn n f) p → Walkable n c top (size - 1) f₂ h₀ h
+    hung-walkable size e = record {
       arranged = arranged-beside (omega (arith, W .ready .top-in)) (frame-join apart (narrow hung-frame)) (W .arranged);
       standing = rw hung-now (W .ready .standing);
       top-in = W .ready .top-in;
       top-placed = rw hung-now (W .ready .top-placed);
+      left = rw hung-now (omega (arith, hung-size, unreached-few n (hang top note (heldTables n c f h₀)) top (W .ready .top-in) (W .ready .top-placed)));
     }
 
     module _ (deepest : ℕ) (f₃ : List ℕ) (G : WalkLeaves n c top deepest f₂ h₀ f₃) where
@@ -187,7 +224,7 @@ low-words n c f h v l =
     (ap (λ (i : ℕ). getD f i 0) a ∙ parent-word (holds n c) f h v l, ap (λ (i : ℕ). getD f i 0) b ∙ level-word (holds n c) f h v l)
 
 -- Of a lost piece the path is kept where its forest is saved, and brought back with it.
-module _ (n c p top note : ℕ) (f h₀ h : List ℕ) (W : Losing n c p top note f h₀ h) (f₁ : List ℕ) (C₁ : Copies n p 0 (12 * n) n f f₁) where
+module _ (n c p top note : ℕ) (f h₀ h : List ℕ) (W : Hanging n c p top note f h₀ h) (f₁ : List ℕ) (C₁ : Copies n p 0 (12 * n) n f f₁) where
   abbrev before : Tables
   before = heldTables n c f h₀
 
@@ -201,23 +238,23 @@ module _ (n c p top note : ℕ) (f h₀ h : List ℕ) (W : Losing n c p top note
   apart₁ = saved-beside C₁
 
   pub lost-hangable : Hangable n top note f₁
-  lost-hangable = hangable-now n c top note f h₀ h (W .hanging) f₁ same₁ apart₁
+  lost-hangable = hangable-now n c p top note f h₀ h W f₁ same₁ apart₁
 
   -- What is joined with the top is a member.
   joined-member : (v : ℕ) → v < n → JoinedBy (linked (hang top note before .held)) top v → labelAt n f v ≡ p
   unfolding tablesIn
   joined-member v l m =
-      let j = joined-label n (before .held) (λ u x t. let (a, b, _) = W .hanging .arranged .among u x t in (a, b)) top v
+      let j = joined-label n (before .held) (λ u x t. let (a, b, _) = W .arranged .among u x t in (a, b)) top v
       (subst (λ (g : List Link). JoinedBy (linked g) top v) (hang-held top note before) m) in
-      label-by n f (W .labels) v l ∙ sym j ∙ sym (label-by n f (W .labels) top (W .hanging .ready .top-in)) ∙ W .top-of
+      label-by n f (W .labels) v l ∙ sym j ∙ sym (label-by n f (W .labels) top (W .ready .top-in)) ∙ W .top-of
 
   module _ (f₂ : List ℕ) (e₂ : f₂ ≡ hungAt n top note f₁) where
-    pub lost-walkable : Walkable n c top f₂ h₀ h
-    lost-walkable = hung-walkable n c top note f h₀ h (W .hanging) f₁ same₁ apart₁ f₂ e₂
+    pub lost-walkable : (size : ℕ) → size ≡ sizeOf n (labelsIn n f) p → Walkable n c top (size - 1) f₂ h₀ h
+    lost-walkable = hung-walkable n c p top note f h₀ h W f₁ same₁ apart₁ f₂ e₂
 
     module _ (deepest : ℕ) (f₃ : List ℕ) (G : WalkLeaves n c top deepest f₂ h₀ f₃) where
       pub lost-climbable : Climbable n top deepest f₃
-      lost-climbable = walk-climbable n c top note f h₀ h (W .hanging) f₁ same₁ apart₁ f₂ e₂ deepest f₃ G
+      lost-climbable = walk-climbable n c p top note f h₀ h W f₁ same₁ apart₁ f₂ e₂ deepest f₃ G
 
       abbrev after : Tables
       after = heldTables n c f₃ h₀
@@ -226,10 +263,10 @@ module _ (n c p top note : ℕ) (f h₀ h : List ℕ) (W : Losing n c p top note
       path = placePath after (rank after deepest - rank after top) deepest before
 
       apart₃ : Beside n f f₃
-      apart₃ = beside-now n c top note f h₀ h (W .hanging) f₁ same₁ apart₁ f₂ e₂ deepest f₃ G
+      apart₃ = beside-now n c p top note f h₀ h W f₁ same₁ apart₁ f₂ e₂ deepest f₃ G
 
       walked₃ : Walked n top (hang top note before) after deepest
-      walked₃ = walked-now n c top note f h₀ h (W .hanging) f₁ same₁ apart₁ f₂ e₂ deepest f₃ G
+      walked₃ = walked-now n c p top note f h₀ h W f₁ same₁ apart₁ f₂ e₂ deepest f₃ G
 
       module _ (f₄ : List ℕ) (G₄ : Climbs n top deepest f₃ f₄) where
         apart₄ : Beside n f f₄
@@ -248,7 +285,7 @@ module _ (n c p top note : ℕ) (f h₀ h : List ℕ) (W : Losing n c p top note
           -- A member has what was saved of it, or the path's words.
           saved-alike : (v : ℕ) → v < n → labelAt n f v ≡ p → Alike (savedAt n c f₃ h₀) before v
           saved-alike v l e =
-              let F = frame-now n c top note f h₀ h (W .hanging) f₁ same₁ apart₁ f₂ e₂ deepest f₃ G in
+              let F = frame-now n c p top note f h₀ h W f₁ same₁ apart₁ f₂ e₂ deepest f₃ G in
               let (a, b) = saved-words n c f₃ h₀ v l in
               let (x, y) = C₁ .members v l l e in
               let (i, j) = low-words n c f h₀ v l in
@@ -260,7 +297,7 @@ module _ (n c p top note : ℕ) (f h₀ h : List ℕ) (W : Losing n c p top note
               let (x, y) = C₅ .members v l l (label₄ v l ∙ e) in
               let (a, b) = saved-words n c f₄ h₀ v l in
               let s = G₄ .saved c h₀ in
-              let S = W .hanging .standing in
+              let S = W .standing in
               let (q, r) = path-alike after (rank after deepest - rank after top) deepest (savedAt n c f₃ h₀) before v l
               (saved-long n c f₃ h₀ (wide-by (apart₃ .same-long) wide)) (S .long-parent, S .long-level) (saved-alike v l e) in
               (sym i ∙ x ∙ a ∙ ap (λ (t : Tables). parentOf t v) s ∙ q, sym j ∙ y ∙ b ∙ ap (λ (t : Tables). rank t v) s ∙ r)
@@ -285,7 +322,7 @@ module _ (n c p top note : ℕ) (f h₀ h : List ℕ) (W : Losing n c p top note
           path-tables : heldTables n c f₅ h₀ ≡ path
           unfolding tablesIn parentOf rank
           path-tables =
-              let S = W .hanging .standing in
+              let S = W .standing in
               let (lp, ll) = path-long {n = n} after (rank after deepest - rank after top) deepest before (S .long-parent, S .long-level) in
               let (en, em, eh, ec) = path-rest after (rank after deepest - rank after top) deepest before in
               let l0 = section-length n f₅ 0 (omega (arith, wide .long, apart₅ .same-long)) in
@@ -300,8 +337,8 @@ module _ (n c p top note : ℕ) (f h₀ h : List ℕ) (W : Losing n c p top note
           pub path-leaves : PathLeaves n c top note f h₀ f₅
           path-leaves = record {
             tables = rw (
-              tables-now n c top note f h₀ h (W .hanging) f₁ same₁ apart₁ f₂ e₂ deepest f₃ G,
-              deep-now n c top note f h₀ h (W .hanging) f₁ same₁ apart₁ f₂ e₂ deepest f₃ G,
+              tables-now n c p top note f h₀ h W f₁ same₁ apart₁ f₂ e₂ deepest f₃ G,
+              deep-now n c p top note f h₀ h W f₁ same₁ apart₁ f₂ e₂ deepest f₃ G,
             ) at path-tables;
             beside = apart₅;
           }

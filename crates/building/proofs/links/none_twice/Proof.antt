@@ -1,97 +1,54 @@
--- `building::links::none_twice` meets its contract: batch by batch, the words before it stand nowhere else.
+-- `building::links::none_twice` meets its contract: class by class, the words of those before it stand nowhere else.
 -- Assumes nothing.
-use Prim.Native.Nat.{_-_}
+use Prim.Native.Nat.{_+_, _-_, _*_, _≤_, _<_}
 use mathlib.Core.Path.{ap, _∙_}
 use native.Mathlib.Omega.{arith}
 use borrow.Author.Tests.{not-true, not-false}
 use borrow.Author.Needs.{needs}
 use lib.ListN.{length}
-use Rattle.building.specs.Laws.Index.{indexed-open}
-use Rattle.building.specs.Laws.Batches.{twice-wider, noted-twice, batchable, Compared, compared-none, compared-all, compared-twice, compared-more}
+use Rattle.building.specs.Batches.{classesMost}
+use Rattle.building.specs.Laws.Batches.{few-classes, Sifted, sifted-none, sifted-all, sifted-twice, sifted-more}
 use Rattle.building.proofs.links.none_twice.Statement.{statement}
 use Rattle.building.proofs.links.none_twice.Tie as tie
 
 abbrev Inv-loop : tie.InvT-loop
-Inv-loop frag₀ held n count base₀ frag base = Compared n count base frag₀ frag held
+Inv-loop frag₀ held n count classes c₀ frag c = (0 < classes) × (classes ≤ classesMost) × Sifted n count c classes frag₀ frag held
 
 abbrev μ-loop : tie.MeasureT-loop
-μ-loop frag₀ held n count base₀ frag base = count - base
+μ-loop frag₀ held n count classes c₀ frag c = classes - c
+
+mul-classes : tie.Need-mul-classes Inv-loop μ-loop
+mul-classes c = omega (arith, c .before .before .pre .few-fragments)
+
+add-classes : tie.Need-add-classes Inv-loop μ-loop
+add-classes c = omega (arith, c .before .before .pre .few-fragments)
+
+div-classes : tie.Need-div-classes Inv-loop μ-loop
+div-classes c = omega arith
+
+add-classes-2 : tie.Need-add-classes-2 Inv-loop μ-loop
+add-classes-2 c = omega (arith, few-classes (c .before .before .pre) (4 * c .before .before .args .n + 1))
 
 loop-holds : tie.Need-loop-holds Inv-loop μ-loop
-loop-holds c = compared-none (c .before .before .pre)
+loop-holds c = (omega arith, few-classes (c .before .before .pre) (4 * c .before .before .args .n + 1), sifted-none (c .before .before .pre))
 
-mul-batch-end : tie.Need-mul-batch-end Inv-loop μ-loop
-mul-batch-end c = omega (arith, c .before .loop .inv .comparable .few-fragments)
-
-mul-note-batch : tie.Need-mul-note-batch Inv-loop μ-loop
-mul-note-batch c = omega (arith, c .before .before .before .loop .inv .comparable .few-fragments)
-
-mul-note-batch-2 : tie.Need-mul-note-batch-2 Inv-loop μ-loop
-mul-note-batch-2 c = omega (arith, c .before .before .before .loop .inv .comparable .few-fragments)
-
-note-batch-requires : tie.Need-note-batch-requires Inv-loop μ-loop
-note-batch-requires c κs =
-    let l = c .before .before .before .loop in
-    let e = c .before .batch-end .ensures in
-    batchable (l .inv .comparable) (l .base) _ (e .1 (omega (arith, l .inv .comparable .inside (l .base) (c .before .before .loop-test .taken)))) (e .0)
+class-differs-requires : tie.Need-class-differs-requires Inv-loop μ-loop
+class-differs-requires c κs = (c .before .before .loop .inv .2 .comparable, c .before .before .loop .inv .1)
 
 same-length : tie.Need-same-length Inv-loop μ-loop
-same-length c = c .before .before .before .note-batch .ensures .outside .same-long ∙ ap length (c .before .before .before .before .before .before .before .loop .inv .same)
+same-length c = c .before .before .before .class-differs .ensures .outside .same-long ∙ ap length (c .before .before .before .before .before .before .loop .inv .2 .same)
 
 returns : tie.Need-returns Inv-loop μ-loop
-returns c =
-    let e = c .before .before .before .note-batch .ensures in
-    compared-twice (c .before .before .before .before .before .before .before .loop .inv) (e .outside) (twice-wider (c .before .before .before .before .before .batch-end .ensures .0) (e .twice (c .if1 .taken)))
-
-mul-none-noted : tie.Need-mul-none-noted Inv-loop μ-loop
-mul-none-noted c = omega (arith, c .before .before .before .before .before .before .before .before .loop .inv .comparable .few-fragments)
-
-mul-none-noted-2 : tie.Need-mul-none-noted-2 Inv-loop μ-loop
-mul-none-noted-2 c = omega (arith, c .before .before .before .before .before .before .before .before .loop .inv .comparable .few-fragments)
-
-none-noted-requires : tie.Need-none-noted-requires Inv-loop μ-loop
-none-noted-requires c κs =
-    let l = c .before .before .before .before .before .before .before .before .loop in
-    let (a, k, B) = c .before .before .before .before .note-batch .ensures .noted (c .before .if1 .left) in
-    (indexed-open (omega (arith, l .inv .comparable .inside (l .base) (c .before .before .before .before .before .before .before .loop-test .taken))) (omega (arith, l .inv .comparable .few-fragments)) (B .indexed), B .indexed, omega (arith, c .before .before .before .before .before .before .batch-end .ensures .0), l .inv .comparable .there)
-
-same-length-2 : tie.Need-same-length-2 Inv-loop μ-loop
-same-length-2 c = c .before .before .before .before .before .before .note-batch .ensures .outside .same-long ∙ ap length (c .before .before .before .before .before .before .before .before .before .before .loop .inv .same)
-
-returns-2 : tie.Need-returns-2 Inv-loop μ-loop
-returns-2 c =
-    let e = c .before .before .before .before .before .before .note-batch .ensures in
-    let (a, k, B) = e .noted (c .before .before .before .if1 .left) in
-    let (q, l, g, m) = c .before .none-noted .ensures .one (not-true _ (c .if2 .taken)) in
-    compared-twice (c .before .before .before .before .before .before .before .before .before .before .loop .inv) (e .outside) (noted-twice B q l g m)
-
-mul-wipe : tie.Need-mul-wipe Inv-loop μ-loop
-mul-wipe c = omega (arith, c .before .before .before .before .before .before .before .before .before .before .before .loop .inv .comparable .few-fragments)
-
-mul-wipe-2 : tie.Need-mul-wipe-2 Inv-loop μ-loop
-mul-wipe-2 c = omega (arith, c .before .before .before .before .before .before .before .before .before .before .before .loop .inv .comparable .few-fragments)
-
-wipe-requires : tie.Need-wipe-requires Inv-loop μ-loop
-wipe-requires c κs =
-    let l = c .before .before .before .before .before .before .before .before .before .before .before .loop .inv .comparable in
-    (omega arith, omega (arith, l .long, c .before .before .before .before .before .before .before .note-batch .ensures .outside .same-long))
-
-loop-less : tie.Need-loop-less Inv-loop μ-loop
-loop-less c =
-    let (a, k, B) = c .before .before .before .before .before .before .before .before .before .before .note-batch .ensures .noted (c .before .before .before .before .before .before .before .if1 .left) in
-    omega (arith, c .before .before .before .before .before .before .before .before .before .before .before .before .before .loop-test .taken)
+returns c = sifted-twice (c .before .before .before .before .before .before .loop .inv .2) (c .before .before .before .class-differs .ensures) (not-true _ (c .if1 .taken))
 
 loop-again : tie.Need-loop-again Inv-loop μ-loop
-loop-again c =
-    let e = c .before .before .before .before .before .before .before .before .before .before .note-batch .ensures in
-    let (a, k, B) = e .noted (c .before .before .before .before .before .before .before .if1 .left) in
-    compared-more (c .before .before .before .before .before .before .before .before .before .before .before .before .before .before .loop .inv) (e .outside) B (omega (arith, c .before .before .before .before .before .before .before .before .before .before .before .before .batch-end .ensures .0)) (c .before .before .before .before .before .none-noted .ensures .none (not-false _ (c .before .before .before .before .if2 .left))) _ (c .before .before .wipe .ensures)
+loop-again c = (c .before .before .before .before .before .before .loop .inv .0, c .before .before .before .before .before .before .loop .inv .1, sifted-more (c .before .before .before .before .before .before .loop .inv .2) (c .before .before .before .class-differs .ensures) (not-false _ (c .if1 .left)))
 
-same-length-3 : tie.Need-same-length-3 Inv-loop μ-loop
-same-length-3 c = ap length (c .before .loop .inv .same)
+same-length-2 : tie.Need-same-length-2 Inv-loop μ-loop
+same-length-2 c = ap length (c .before .loop .inv .2 .same)
 
-returns-3 : tie.Need-returns-3 Inv-loop μ-loop
-returns-3 c = compared-all (c .before .loop .inv) (omega arith)
+returns-2 : tie.Need-returns-2 Inv-loop μ-loop
+returns-2 c = sifted-all (c .before .loop .inv .2) (c .before .loop .inv .0) (omega arith)
 
 pub none-twice-spec : {M : Type 1} → statement M
 none-twice-spec =
@@ -99,23 +56,16 @@ none-twice-spec =
     (tie.spec
     Inv-loop
     μ-loop
+    mul-classes
+    add-classes
+    div-classes
+    add-classes-2
     loop-holds
-    mul-batch-end
-    (λ c κs. search needs)
-    mul-note-batch
-    mul-note-batch-2
-    note-batch-requires
+    class-differs-requires
     same-length
     returns
-    mul-none-noted
-    mul-none-noted-2
-    none-noted-requires
-    same-length-2
-    returns-2
-    mul-wipe
-    mul-wipe-2
-    wipe-requires
-    loop-less
+    (λ c. search needs)
+    (λ c. search needs)
     loop-again
-    same-length-3
-    returns-3)
+    same-length-2
+    returns-2)

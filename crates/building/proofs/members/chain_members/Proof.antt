@@ -18,29 +18,29 @@ Inv-loop frag₀ n v₀ frag v = (v ≤ n) × Chaining n frag₀ v frag
 abbrev μ-loop : tie.MeasureT-loop
 μ-loop frag₀ n v₀ frag v = v
 
--- src/members.rt:13:5
+-- src/members.rt:16:5
 loop-holds : tie.Need-loop-holds Inv-loop μ-loop
 loop-holds c = (omega arith, chaining-none _ _ (c .before .pre))
 
--- src/members.rt:16:27
+-- src/members.rt:19:27
 slice-read-frag : tie.Need-slice-read-frag Inv-loop μ-loop
 slice-read-frag c =
     let l = c .before .before .before .before .loop in
     omega (arith, label-small _ _ _ _ (c .before .before .before .before .before .before .pre) (l .inv .1) (omega arith) (l .inv .0) _ (c .before .wide .ensures .says), l .inv .1 .same-long)
 
--- src/members.rt:17:9
+-- src/members.rt:20:9
 slice-write-frag-2 : tie.Need-slice-write-frag-2 Inv-loop μ-loop
 slice-write-frag-2 c =
     let l = c .before .before .before .before .loop in
     simp length-set (omega (arith, label-small _ _ _ _ (c .before .before .before .before .before .before .pre) (l .inv .1) (omega arith) (l .inv .0) _ (c .before .wide .ensures .says), l .inv .1 .same-long))
 
--- src/members.rt:13:5
+-- src/members.rt:16:5
 loop-again : tie.Need-loop-again Inv-loop μ-loop
 loop-again c =
     let l = c .before .before .before .before .loop in
     (omega arith, chaining-turn _ _ _ _ (c .before .before .before .before .before .before .pre) (l .inv .1) (omega arith) (l .inv .0) _ (c .before .wide .ensures .says))
 
--- src/members.rt:8:1
+-- src/members.rt:11:1
 returns : tie.Need-returns Inv-loop μ-loop
 returns c =
     let l = c .before .loop in

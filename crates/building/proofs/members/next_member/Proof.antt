@@ -10,11 +10,11 @@ use Rattle.building.proofs.members.next_member.Reads as reads
 use Rattle.building.proofs.members.next_member.Lts as lts
 use Rattle.building.proofs.tables.wide.Reads as wide-reads
 
--- src/members.rt:28:9
+-- src/members.rt:31:9
 returns : tie.Need-returns
 returns c = follows-none _ _ _ (c .before .before .before .before .pre .1) (omega arith) (sym (c .before .wide .ensures .says) ∙ c .if1 .taken)
 
--- src/members.rt:22:1
+-- src/members.rt:25:1
 returns-2 : tie.Need-returns-2
 returns-2 c = follows-next _ _ _ (c .before .before .before .before .pre .1) (omega arith) _ (sym (c .before .wide .ensures .says) ∙ omega (arith, c .if1 .left))
 

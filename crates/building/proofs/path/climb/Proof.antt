@@ -19,31 +19,31 @@ Inv-loop frag₀ n top deepest v₀ left₀ frag v left = Climbing n top deepest
 abbrev μ-loop : tie.MeasureT-loop
 μ-loop frag₀ n top deepest v₀ left₀ frag v left = left
 
--- src/path.rt:39:20
+-- src/path.rt:40:20
 sub-left : tie.Need-sub-left Inv-loop μ-loop
 sub-left c = let a = c .before .before .before .args in omega (arith, level-word (bare (a .n)) (a .frag .now) [] (a .deepest) (omega arith), level-word (bare (a .n)) (a .frag .now) [] (a .top) (omega arith))
 
--- src/path.rt:40:5
+-- src/path.rt:41:5
 loop-holds : tie.Need-loop-holds Inv-loop μ-loop
 loop-holds c = climbing-starts _ _ _ _ (c .before .before .before .pre)
 
--- src/path.rt:41:9
+-- src/path.rt:42:9
 copy-requires : tie.Need-copy-requires Inv-loop μ-loop
 copy-requires c κs = let l = c .before .before .loop in (keepable (wide-by (l .inv .beside .same-long) (c .before .before .before .before .before .before .pre .wide)), l .inv .in-range)
 
--- src/path.rt:42:13
+-- src/path.rt:43:13
 cast-v : tie.Need-cast-v Inv-loop μ-loop
 cast-v c = omega (arith, c .slice-known5 .given (c .before .before .before .before .before .before .loop .v))
 
--- src/path.rt:40:5
+-- src/path.rt:41:5
 loop-again : tie.Need-loop-again Inv-loop μ-loop
 loop-again c = let l = c .before .before .before .before .before .before .loop in rw (c .before .before .before .copy .ensures) (climbing-up _ _ _ _ _ _ _ (l .inv) (c .before .before .before .before .before .before .before .before .before .before .pre .standing) (omega arith))
 
--- src/path.rt:45:5
+-- src/path.rt:46:5
 copy-requires-2 : tie.Need-copy-requires-2 Inv-loop μ-loop
 copy-requires-2 c κs = let l = c .before .before .loop in (keepable (wide-by (l .inv .beside .same-long) (c .before .before .before .before .before .before .pre .wide)), l .inv .in-range)
 
--- src/path.rt:34:1
+-- src/path.rt:35:1
 returns : tie.Need-returns Inv-loop μ-loop
 returns c = let l = c .before .before .before .before .before .loop in rw (c .before .before .copy2 .ensures) (climbing-ends _ _ _ _ _ _ _ (l .inv) (omega arith))
 

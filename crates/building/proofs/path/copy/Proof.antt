@@ -12,15 +12,15 @@ use Rattle.building.proofs.path.copy.Tie as tie
 use Rattle.building.proofs.path.copy.Reads as reads
 use Rattle.building.proofs.path.copy.Lts as lts
 
--- src/path.rt:18:24
+-- src/path.rt:19:24
 slice-read-frag-2 : tie.Need-slice-read-frag-2
 slice-read-frag-2 c = simp length-set (omega arith)
 
--- src/path.rt:18:5
+-- src/path.rt:19:5
 slice-write-frag-2 : tie.Need-slice-write-frag-2
 slice-write-frag-2 c = simp length-set (omega arith)
 
--- src/path.rt:13:1
+-- src/path.rt:14:1
 returns : tie.Need-returns
 unfolding copiedAt
 returns c =

@@ -20,15 +20,15 @@ Inv-loop frag₀ n p from to v₀ frag v = Along n p frag₀ v × Copies n p fro
 abbrev μ-loop : tie.MeasureT-loop
 μ-loop frag₀ n p from to v₀ frag v = n - v
 
--- src/path.rt:27:5
+-- src/path.rt:28:5
 loop-holds : tie.Need-loop-holds Inv-loop μ-loop
 loop-holds c = let q = c .before .pre .0 in (along-first q, copies-start _ _ _ _ _ q)
 
--- src/path.rt:28:9
+-- src/path.rt:29:9
 copy-requires : tie.Need-copy-requires Inv-loop μ-loop
 copy-requires c κs = (copyable-by (c .before .before .loop .inv .1 .same-long) (c .before .before .before .before .pre .1), omega arith)
 
--- src/path.rt:29:9
+-- src/path.rt:30:9
 next-member-requires : tie.Need-next-member-requires Inv-loop μ-loop
 next-member-requires c κs =
     let q = c .before .before .before .before .before .before .before .before .pre in
@@ -36,11 +36,11 @@ next-member-requires c κs =
     let k = copied-chained _ _ _ _ _ _ _ (q .1) (l .inv .0) (omega arith) (l .inv .1) (q .0) in
     rw (c .before .before .before .copy .ensures) (k .wide, k .membered, omega arith)
 
--- src/path.rt:27:5
+-- src/path.rt:28:5
 loop-less : tie.Need-loop-less Inv-loop μ-loop
 loop-less c = omega (arith, c .next-member .ensures .on)
 
--- src/path.rt:27:5
+-- src/path.rt:28:5
 loop-again : tie.Need-loop-again Inv-loop μ-loop
 loop-again c =
     let q = c .before .before .before .before .before .before .before .before .before .pre in
@@ -49,7 +49,7 @@ loop-again c =
     let d = rw e at (c .next-member .ensures) in
     rw e (along-next (l .inv .0) (omega arith) (follows-copied _ _ _ _ _ _ _ (q .1) (l .inv .0) (omega arith) (l .inv .1) _ d), copies-next _ _ _ _ _ _ _ (q .1) (l .inv .0) (omega arith) (l .inv .1) _ d)
 
--- src/path.rt:22:1
+-- src/path.rt:23:1
 returns : tie.Need-returns Inv-loop μ-loop
 returns c =
     let l = c .before .loop in

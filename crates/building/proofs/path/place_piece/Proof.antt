@@ -1,6 +1,6 @@
 -- `building::path::place_piece` meets its contract: by the choices for the piece, either way as the rules do.
 -- Assumes nothing.
-use Rattle.building.specs.Laws.Placing.{due-hanging, due-losing, piece-path, piece-whole}
+use Rattle.building.specs.Laws.Placing.{due-hanging, piece-path, piece-whole}
 use mathlib.Core.Path.{sym, _∙_}
 use borrow.Author.Needs.{needs}
 use Rattle.building.proofs.path.place_piece.Statement.{statement}
@@ -13,29 +13,29 @@ use Rattle.building.proofs.choose.top_of.Reads as top-of-reads
 use Rattle.building.proofs.path.place_path.Reads as place-path-reads
 use Rattle.building.proofs.path.place_whole.Reads as place-whole-reads
 
--- src/path.rt:85:9
+-- src/path.rt:97:9
 place-path-requires : tie.Need-place-path-requires
 place-path-requires c κs =
     let q = c .before .before .before .before .before .before .before .before .before .before .pre in
     let b = c .before .before .before .before .before .before .best-note .ensures in
-    record { told = q .told; losing = due-losing _ _ _ _ _ _ (q .due) _ _ (b .0) (c .before .before .before .before .top-of .ensures) (b .1) }
+    record { told = q .told; hanging = due-hanging _ _ _ _ _ _ (q .due) _ _ (b .0) (c .before .before .before .before .top-of .ensures) (b .1) }
 
--- src/path.rt:87:9
+-- src/path.rt:99:9
 place-whole-requires : tie.Need-place-whole-requires
 place-whole-requires c κs =
     let q = c .before .before .before .before .before .before .before .before .before .before .pre in
     let b = c .before .before .before .before .before .before .best-note .ensures in
     record { told = q .told; hanging = due-hanging _ _ _ _ _ _ (q .due) _ _ (b .0) (c .before .before .before .before .top-of .ensures) (b .1) }
 
--- src/path.rt:78:1
+-- src/path.rt:90:1
 returns : tie.Need-returns
 returns c =
     let b = c .before .before .before .before .before .before .before .before .before .best-note .ensures in
     let t = c .before .before .before .before .before .before .before .top-of .ensures in
     let l = sym (c .before .before .before .before .if1 .taken) ∙ c .before .before .before .before .before .is-lost .ensures in
-    λ h₀ D. piece-path _ _ _ _ _ _ D _ _ (b .0) t _ l (c .before .before .place-path .ensures h₀ (due-losing _ _ _ _ _ _ D _ _ (b .0) t (b .1)))
+    λ h₀ D. piece-path _ _ _ _ _ _ D _ _ (b .0) t _ l (c .before .before .place-path .ensures h₀ (due-hanging _ _ _ _ _ _ D _ _ (b .0) t (b .1)))
 
--- src/path.rt:78:1
+-- src/path.rt:90:1
 returns-2 : tie.Need-returns-2
 returns-2 c =
     let b = c .before .before .before .before .before .before .before .before .before .best-note .ensures in
