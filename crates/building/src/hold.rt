@@ -1,23 +1,13 @@
 // B3: a link between two unplaced fragments is held, or marks its piece lost.
 ghost use mathlib.Core.Path.{_≡_};
-ghost use Prim.Native.Nat.{_<_};
 ghost use Rattle.rules.specs.Building.{holdLink};
-ghost use Rattle.state.specs.Layout.{radix, wordOf};
 ghost use Rattle.building.specs.Telling.{heldTables, Leaves, Sized, roomAt, Holdable, Holds, Between, Within, MayHold};
+use crate::index::word_of;
 use crate::noted::is_held;
 use crate::noted::note_held;
 use crate::pieces::find;
 use crate::pieces::join;
 use crate::tables::wide;
-use crate::words::RADIX;
-
-// The word of a held link.
-fn word(a: usize, b: usize) -> u32
-    requires { ⌜ (a < radix) × (b < radix) ⌝ }
-    ensures { λ r. ⌜ r ≡ wordOf (a, b) ⌝ }
-{
-    a as u32 * RADIX + b as u32
-}
 
 // Room for one more link in the piece whose smallest member is p.
 fn has_room(frag: &[u32], n: usize, k: usize, p: usize) -> bool
@@ -90,11 +80,10 @@ fn hold(frag: &mut [u32], held: &mut [u32], n: usize, count: usize, a: usize, b:
     requires { ⌜ Holdable n count a b (now frag) (now held) ⌝ }
     ensures { λ r. ⌜ Holds n count a b (now (frag .entry)) (now (held .entry)) (now (frag .exit)) (now (held .exit)) ⌝ }
 {
+    held[count] = word_of(a, b);
     if a < b {
-        held[count] = word(a, b);
         join(frag, n, a, b);
     } else {
-        held[count] = word(b, a);
         join(frag, n, b, a);
     }
 }

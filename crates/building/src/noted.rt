@@ -1,10 +1,10 @@
-// Links of a block noted in sections 7 to 15 while the block is told, each with whether it is held: a link told again is not looked for in the held table.
+// Links noted in sections 7 to 15 while a block is told, each with whether it is held: a link told again is not looked for in the held table.
 ghost use Prim.Native.Nat.{_*_, _≤_, min, max};
 ghost use mathlib.Core.List.{map};
 ghost use lib.ListN.{length, take};
 ghost use Rattle.state.specs.Layout.{linkIn};
 ghost use Rattle.building.specs.Pieces.{Ends};
-ghost use Rattle.building.specs.Noted.{Noted, Apart, Askable, Answers, Flags, Learnable, Flaggable, Stands, Fresh, Anew, Matching};
+ghost use Rattle.building.specs.Noted.{Noted, Apart, Askable, Answers, Flags, Learnable, Flaggable, Addable, Stands, Fresh, Anew, Matching, Unnoted};
 use crate::index::FLAG;
 use crate::index::look;
 use crate::index::word_of;
@@ -17,26 +17,52 @@ fn standing(frag: &[u32], n: usize, w: u32) -> u32
     requires { ⌜ Flaggable n w (now frag) ⌝ }
     ensures { λ r. ⌜ Stands n w (now (frag .entry)) r ⌝ }
 {
-    let i = look(frag, 7 * n, 9 * n, w);
-    if i == 9 * n {
+    let size = 9 * n - 1;
+    let i = look(frag, 7 * n, size, w);
+    if i == size {
         return 0;
     }
     frag[7 * n + i]
 }
 
-// A word gets its flag where it is noted: its link is held.
+// A held link that is not noted, whose way ends in the empty slot i. The word behind the slots is 0, or one more than how many links are noted
+// where every held one is: then this one is noted too, until 4·n are.
+fn note_more(frag: &mut [u32], n: usize, w: u32, i: usize)
+    requires { ⌜ Addable n w i (now frag) ⌝ }
+    ensures { λ r. ⌜ Flags n (linkIn w) (now (frag .entry)) (now (frag .exit)) ⌝ }
+{
+    let behind = 7 * n + (9 * n - 1);
+    let whole = frag[behind];
+    if whole == 0 {
+        return;
+    }
+    if 4 * n < whole as usize {
+        frag[behind] = 0;
+    } else {
+        frag[7 * n + i] = w + FLAG;
+        frag[behind] = whole + 1;
+    }
+}
+
+// The link of a word is held: the word has its flag where it is noted.
 fn set_flag(frag: &mut [u32], n: usize, w: u32)
     requires { ⌜ Flaggable n w (now frag) ⌝ }
     ensures { λ r. ⌜ Flags n (linkIn w) (now (frag .entry)) (now (frag .exit)) ⌝ }
 {
-    let i = look(frag, 7 * n, 9 * n, w);
-    if i < 9 * n {
-        let x = frag[7 * n + i];
-        if x != 0 {
-            if x < FLAG {
-                frag[7 * n + i] = x + FLAG;
-            }
-        }
+    let size = 9 * n - 1;
+    let i = look(frag, 7 * n, size, w);
+    if i == size {
+        // No slot is left: not every held link is noted.
+        frag[7 * n + size] = 0;
+        return;
+    }
+    let x = frag[7 * n + i];
+    if x == 0 {
+        note_more(frag, n, w, i);
+        return;
+    }
+    if x < FLAG {
+        frag[7 * n + i] = x + FLAG;
     }
 }
 
@@ -60,6 +86,17 @@ fn set_flags(frag: &mut [u32], held: &[u32], n: usize, count: usize)
     }
 }
 
+// Where the held links are few, every one of them is noted: a link that is not noted then is not held.
+pub(crate) fn note_all(frag: &mut [u32], held: &[u32], n: usize, count: usize)
+    requires { ⌜ Unnoted n count (now frag) (now held) ⌝ }
+    ensures { λ r. ⌜ Noted n (map linkIn (take count (now (held .entry)))) (now (frag .exit)) × Apart n (now (frag .entry)) (now (frag .exit)) ⌝ }
+{
+    if count < 4 * n {
+        frag[7 * n + (9 * n - 1)] = 1;
+        set_flags(frag, held, n, count);
+    }
+}
+
 // A link between two unplaced fragments is noted. Returns how many were: 0 or 1, or 4·n where no slot is left.
 fn note_one(frag: &mut [u32], n: usize, a: usize, b: usize) -> usize
     requires { ⌜ Fresh n (now frag) × Ends n a b ⌝ }
@@ -72,8 +109,9 @@ fn note_one(frag: &mut [u32], n: usize, a: usize, b: usize) -> usize
         return 0;
     }
     let w = word_of(a, b);
-    let i = look(frag, 7 * n, 9 * n, w);
-    if i == 9 * n {
+    let size = 9 * n - 1;
+    let i = look(frag, 7 * n, size, w);
+    if i == size {
         return 4 * n;
     }
     if frag[7 * n + i] != 0 {
@@ -94,10 +132,10 @@ fn block_end(len: usize, at: usize, most: usize) -> usize
     if left <= most {
         return len;
     }
-    if left - most <= at {
+    if left - most <= at / 2 {
         return len;
     }
-    at + at + most
+    at + at / 2 + most
 }
 
 // Links of a block from one byte to another are noted, until 4·n are.
@@ -139,7 +177,7 @@ fn note_anew(
     ensures { λ r. ⌜ Noted n (map linkIn (take count (now (held .entry)))) (now (frag .exit)) × Apart n (now (frag .entry)) (now (frag .exit)) ⌝ }
 {
     wipe(frag, 7 * n, 16 * n);
-    let end = block_end(block.len(), at, 4 * count + 1024);
+    let end = block_end(block.len(), at, 2 * count + 1024);
     note_links(frag, n, told, block, at, end);
     set_flags(frag, held, n, count);
 }
@@ -162,6 +200,9 @@ pub(crate) fn is_held(
     let x = standing(frag, n, word_of(a, b));
     if x != 0 {
         return FLAG <= x;
+    }
+    if frag[7 * n + (9 * n - 1)] != 0 {
+        return false;
     }
     let answer = is_among(held, 0, count, a, b);
     note_anew(frag, held, n, count, told, block, at);

@@ -5,6 +5,7 @@ ghost use Rattle.building.specs.Pieces.{Ends};
 ghost use Rattle.building.specs.Telling.{heldTables, Leaves, Telling, Notable, noting, Rest, Tells, Tellable, Told};
 use crate::choose::better_note;
 use crate::hold::hold_link;
+use crate::noted::note_all;
 use crate::pieces::gather;
 use crate::tables::note_at;
 use crate::tables::rank_at;
@@ -98,6 +99,7 @@ pub(crate) fn tell_block(
     ensures { λ r. ⌜ Told n k count entries (now (block .entry)) (now (frag .entry)) (now (held .entry)) r (now (frag .exit)) (now (held .exit)) ⌝ }
 {
     gather(frag, held, n, count);
+    note_all(frag, held, n, count);
     let now_held = tell_links(frag, held, n, k, count, entries, block);
     wipe(frag, 4 * n, 16 * n);
     now_held

@@ -31,8 +31,8 @@ use Rattle.state.specs.Test.{allZero}
 use Rattle.state.specs.Laws.Lists.{zeros-pass}
 use Rattle.state.specs.Laws.Words.{link-word}
 use Rattle.state.specs.Laws.Layout.{store-note, store-mark, store-held, tables-frag-same}
-use Rattle.building.specs.Pieces.{wiped, Ends, heldMost, Gathered, Finds, Joinable, Joins, Gatherable, Gathers}
-use Rattle.building.specs.Noted.{Noted, Apart, Askable, Answers, Learnable}
+use Rattle.building.specs.Pieces.{wiped, Ends, heldMost, Gathered, Finds, Joins, Gatherable, Gathers}
+use Rattle.building.specs.Noted.{Noted, Apart, Askable, Answers, Learnable, Unnoted}
 use Rattle.building.specs.Laws.Scratch.{wiped-length, blank-at}
 use Rattle.building.specs.Laws.Pieces.{front-at, rest-at, gathered-by}
 use Rattle.building.specs.Laws.Noted.{noted-none, noted-keeps}
@@ -458,30 +458,17 @@ module _ {n k count a b : ℕ} {f₀ f h : List ℕ} (B₀ : Between n k count a
       hold-more = leaves-next (M .same yes-it) (leaves-as held-leaves (ap (holdLink n k a b) (M .same yes-it .tables)))
 
 -- A link is held with its smaller end first.
-module _ {n count a b : ℕ} {f h : List ℕ} (H : Holdable n count a b f h) where
-  pub join-rising : a < b → Joinable n f a b
-  join-rising l =
-      let e : min a b ≡ a = omega arith in
-      let g : max a b ≡ b = omega arith in
-      (rw (e, g) at (H .joinable))
-
-  pub join-falling : b ≤ a → Joinable n f b a
-  join-falling l =
-      let e : min a b ≡ b = omega arith in
-      let g : max a b ≡ a = omega arith in
-      (rw (e, g) at (H .joinable))
-
-pub holds-rising : {n count a b : ℕ} {f h f′ : List ℕ} → a < b → (w : ℕ) → w ≡ wordOf (a, b) → Joins n a b f f′ → Holds n count a b f h f′ (set h count w)
+pub holds-rising : {n count a b : ℕ} {f h f′ : List ℕ} → a < b → (w : ℕ) → w ≡ wordOf (min a b, max a b) → Joins n a b f f′ → Holds n count a b f h f′ (set h count w)
 holds-rising {n} {count} {a} {b} {f} {h} l w z j =
     let e : min a b ≡ a = omega arith in
     let g : max a b ≡ b = omega arith in
-    record { word = rw (e, g) (ap (λ x. set h count x) z); joins = rw (e, g) j }
+    record { word = ap (λ x. set h count x) z; joins = rw (e, g) j }
 
-pub holds-falling : {n count a b : ℕ} {f h f′ : List ℕ} → b ≤ a → (w : ℕ) → w ≡ wordOf (b, a) → Joins n b a f f′ → Holds n count a b f h f′ (set h count w)
+pub holds-falling : {n count a b : ℕ} {f h f′ : List ℕ} → b ≤ a → (w : ℕ) → w ≡ wordOf (min a b, max a b) → Joins n b a f f′ → Holds n count a b f h f′ (set h count w)
 holds-falling {n} {count} {a} {b} {f} {h} l w z j =
     let e : min a b ≡ b = omega arith in
     let g : max a b ≡ a = omega arith in
-    record { word = rw (e, g) (ap (λ x. set h count x) z); joins = rw (e, g) j }
+    record { word = ap (λ x. set h count x) z; joins = rw (e, g) j }
 
 -- Before byte `at` the block's links are told; those from there on lead to what the whole block leaves.
 pub record Midway (n k first entries : ℕ) (block f₀ h₀ : List ℕ) (count : ℕ) (f h : List ℕ) (told at : ℕ) : Type 0 where
@@ -575,36 +562,54 @@ module _ {n k count : ℕ} {f h : List ℕ} (W : Tellable n k count f h) where
     unfolding tablesIn
     links-same = refl
 
-    pub gathered-telling : Telling n k count g h
+    pub unnoted : Unnoted n count g h
+    unfolding tablesIn
+    unnoted = record {
+      few-fragments = few-fragments;
+      long = omega (arith, G .kept .same-length);
+      empty = λ i l q. rest-at (7 * n) f g (G .kept .behind) i l ∙ blank-at n f long blank i (omega arith) q;
+      there = omega (arith, few-links);
+      inside = λ i l. (rising i l, underway .holding .ends _ _ (link-there h count i l (omega (arith, few-links))) .1);
+    }
+
+    gathered-telling : Telling n k count g h
     gathered-telling = record {
       few-fragments = few-fragments;
       some-room = some-room;
       few-room = few-room;
-      long = omega (arith, G .kept .same-length);
+      long = unnoted .long;
       held-long = held-long;
       underway = rw same-tables underway;
       gathered = rw links-same (G .gathered);
       as-many = rw same-tables as-many;
       rising = rising;
-      noted = noted-none n _ g (omega (arith, G .kept .same-length)) (λ i l q. rest-at (7 * n) f g (G .kept .behind) i l ∙ blank-at n f long blank i (omega arith) q);
+      noted = noted-none n _ g (unnoted .long) (unnoted .empty);
     }
 
-    pub told-settles : (entries : ℕ) (block : List ℕ) {count′ : ℕ} {f′ h′ : List ℕ} → Tells n k count entries block g h count′ f′ h′ → (f″ : List ℕ) → f″ ≡ wiped (4 * n) (16 * n) f′ → Told n k count entries block f h count′ f″ h′
-    told-settles entries block {count′} {f′} {h′} D f″ w links e =
-        let L = D links e in
-        let S = L .telling in
-        let kept : heldTables n count′ (wiped (4 * n) (16 * n) f′) h′ ≡ heldTables n count′ f′ h′ =
-        tables-frag-same (holds n count′) f′ (wiped (4 * n) (16 * n) f′) h′ (wiped-front (4 * n) (16 * n) f′ (omega arith) (S .long)) in
-        let z : 16 * n - 4 * n ≡ 12 * n = omega arith in
-        let all : buildLinks n k (heldTables n count g h) links ≡ buildLinks n k (heldTables n count f h) links = ap (λ x. buildLinks n k x links) same-tables in
-        rw w (record {
-          tables = kept ∙ L .tables ∙ all;
-          blank = rw z at (wiped-zero (4 * n) (16 * n) f′ (omega arith) (S .long));
-          frag-length = wiped-length (4 * n) (16 * n) f′ (omega arith) (S .long) ∙ L .frag-length ∙ G .kept .same-length;
-          frag-past = wiped-past (4 * n) (16 * n) f′ (omega arith) (S .long) ∙ L .frag-past ∙ drop-more (7 * n) (16 * n) f g (omega arith) (G .kept .behind);
-          held-length = L .held-length;
-          held-past = L .held-past;
-          more = L .more;
-          room = omega (arith, held-few n k (heldTables n count′ f′ h′) (S .underway .holding), S .as-many);
-          as-many = rw (← all, ← L .tables) (S .as-many);
-        })
+    module _ (g′ : List ℕ) (N : Noted n (map linkIn (take count h)) g′) (A : Apart n g g′) where
+      noted-leaves : Leaves n k count g h count g′ h (heldTables n count g h)
+      noted-leaves =
+          leaves-scratch gathered-telling g′ (A .same-long) (apart-stored A) (A .past) (apart-gathered A _ (gathered-telling .gathered)) (rw links-same N)
+
+      pub noted-telling : Telling n k count g′ h
+      noted-telling = noted-leaves .telling
+
+      pub told-settles : (entries : ℕ) (block : List ℕ) {count′ : ℕ} {f′ h′ : List ℕ} → Tells n k count entries block g′ h count′ f′ h′ → (f″ : List ℕ) → f″ ≡ wiped (4 * n) (16 * n) f′ → Told n k count entries block f h count′ f″ h′
+      told-settles entries block {count′} {f′} {h′} D f″ w links e =
+          let L = D links e in
+          let S = L .telling in
+          let kept : heldTables n count′ (wiped (4 * n) (16 * n) f′) h′ ≡ heldTables n count′ f′ h′ =
+          tables-frag-same (holds n count′) f′ (wiped (4 * n) (16 * n) f′) h′ (wiped-front (4 * n) (16 * n) f′ (omega arith) (S .long)) in
+          let z : 16 * n - 4 * n ≡ 12 * n = omega arith in
+          let all : buildLinks n k (heldTables n count g′ h) links ≡ buildLinks n k (heldTables n count f h) links = ap (λ x. buildLinks n k x links) (noted-leaves .tables ∙ same-tables) in
+          rw w (record {
+            tables = kept ∙ L .tables ∙ all;
+            blank = rw z at (wiped-zero (4 * n) (16 * n) f′ (omega arith) (S .long));
+            frag-length = wiped-length (4 * n) (16 * n) f′ (omega arith) (S .long) ∙ L .frag-length ∙ A .same-long ∙ G .kept .same-length;
+            frag-past = wiped-past (4 * n) (16 * n) f′ (omega arith) (S .long) ∙ L .frag-past ∙ A .past ∙ drop-more (7 * n) (16 * n) f g (omega arith) (G .kept .behind);
+            held-length = L .held-length;
+            held-past = L .held-past;
+            more = L .more;
+            room = omega (arith, held-few n k (heldTables n count′ f′ h′) (S .underway .holding), S .as-many);
+            as-many = rw (← all, ← L .tables) (S .as-many);
+          })

@@ -1,27 +1,45 @@
 -- `building::noted::set_flag` meets its contract: one law for each way out.
 -- Assumes nothing.
+use Prim.Native.Nat.{_-_, _*_, _<_}
 use native.Mathlib.Omega.{arith}
+use Rattle.building.specs.Laws.Noted.{flags-ended, flags-had, flags-now}
 use borrow.Author.Needs.{needs}
-use Rattle.building.specs.Laws.Noted.{flags-none, flags-had, flags-now}
 use Rattle.building.proofs.noted.set_flag.Statement.{statement}
 use Rattle.building.proofs.noted.set_flag.Tie as tie
 
 returns : tie.Need-returns
-returns c = flags-now (c .before .before .before .before .look .ensures) (c .before .before .before .before .before .before .before .pre .sorted) (c .before .before .before .if1 .taken) (c .before .if2 .taken) (c .if3 .taken)
-
-returns-2 : tie.Need-returns-2
-returns-2 c = flags-had (c .before .before .before .before .look .ensures) (c .before .before .before .before .before .before .before .pre .sorted) (c .before .before .before .if1 .taken) (c .before .if2 .taken) (omega (arith, c .if3 .left))
+returns c =
+    let p = c .before .before .before .before .pre in
+    flags-ended (c .before .look .ensures) (p .sorted) (λ l. absurd (omega (arith, c .if1 .taken))) (p .some) (p .long)
 
 returns-3 : tie.Need-returns-3
-returns-3 c = flags-none (c .before .before .before .look .ensures) (c .before .before .before .before .before .before .pre .sorted) (λ l. omega (arith, c .if2 .left))
+returns-3 c =
+    let k = c .before .before .before .before .look in
+    let h : k .result < 9 * c .before .before .before .before .before .before .before .args .n - 1 = omega (arith, k .ensures .in-range, c .before .before .before .if1 .left) in
+    flags-now (k .ensures) (c .before .before .before .before .before .before .before .pre .sorted) h (c .before .if2 .left) (c .if3 .taken)
 
 returns-4 : tie.Need-returns-4
-returns-4 c = flags-none (c .before .look .ensures) (c .before .before .before .before .pre .sorted) (λ l. absurd (omega (arith, c .if1 .left)))
+returns-4 c =
+    let k = c .before .before .before .before .look in
+    let h : k .result < 9 * c .before .before .before .before .before .before .before .args .n - 1 = omega (arith, k .ensures .in-range, c .before .before .before .if1 .left) in
+    flags-had (k .ensures) (c .before .before .before .before .before .before .before .pre .sorted) h (c .before .if2 .left) (omega (arith, c .if3 .left))
 
 pub set-flag-spec : {M : Type 1} → statement M
 set-flag-spec =
     tie.close
     (tie.spec
+    (λ c. search needs)
+    (λ c. search needs)
+    (λ c. search needs)
+    (λ c κs. search needs)
+    (λ c. search needs)
+    (λ c. search needs)
+    (λ c. search needs)
+    (λ c. search needs)
+    (λ c. search needs)
+    returns
+    (λ c. search needs)
+    (λ c. search needs)
     (λ c. search needs)
     (λ c. search needs)
     (λ c κs. search needs)
@@ -32,13 +50,6 @@ set-flag-spec =
     (λ c. search needs)
     (λ c. search needs)
     (λ c. search needs)
-    (λ c. search needs)
-    (λ c. search needs)
-    (λ c. search needs)
-    (λ c. search needs)
-    returns
-    (λ c. search needs)
-    returns-2
     (λ c. search needs)
     returns-3
     (λ c. search needs)

@@ -9,7 +9,7 @@ use lib.ListN.{take}
 use Rattle.state.specs.Layout.{linkIn}
 use Rattle.building.specs.Noted.{Noted, Apart}
 use Rattle.building.specs.Laws.Gather.{links-more}
-use Rattle.building.specs.Laws.Noted.{apart-none, apart-then}
+use Rattle.building.specs.Laws.Noted.{apart-none, apart-then, held-small}
 use Rattle.building.proofs.noted.set_flags.Statement.{statement}
 use Rattle.building.proofs.noted.set_flags.Tie as tie
 
@@ -32,7 +32,16 @@ set-flag-requires : tie.Need-set-flag-requires Inv-loop μ-loop
 set-flag-requires c κs =
     let l = c .before .before .before .loop in
     let p = c .before .before .before .before .before .before .pre in
-    record { some = p .fresh .some; few-fragments = p .fresh .few-fragments; sorted = p .inside (l .i) (omega arith) .0; held = _; noted = l .inv .1 }
+    let s = p .inside (l .i) (omega arith) in
+    record {
+      some = p .fresh .some;
+      few-fragments = p .fresh .few-fragments;
+      long = omega (arith, p .fresh .long, l .inv .2 .same-long);
+      sorted = s .0;
+      small = held-small (p .fresh .few-fragments) (s .0) (s .1);
+      held = _;
+      noted = l .inv .1;
+    }
 
 loop-again : tie.Need-loop-again Inv-loop μ-loop
 loop-again c =

@@ -1,6 +1,6 @@
--- `building::tell::tell_block` meets its contract: the pieces are gathered, the links told, and scratch is cleared.
+-- `building::tell::tell_block` meets its contract: the pieces are gathered, held links noted, the links told, and scratch is cleared.
 -- Assumes nothing.
-use Rattle.building.specs.Laws.Telling.{gatherable, gathered-telling, told-settles}
+use Rattle.building.specs.Laws.Telling.{gatherable, unnoted, noted-telling, told-settles}
 use borrow.Author.Needs.{needs}
 use Rattle.building.proofs.tell.tell_block.Statement.{statement}
 use Rattle.building.proofs.tell.tell_block.Tie as tie
@@ -8,38 +8,30 @@ use Rattle.building.proofs.tell.tell_block.Tie as tie
 gather-requires : tie.Need-gather-requires
 gather-requires c κs = gatherable (c .before .before .before .before .before .pre .0)
 
+note-all-requires : tie.Need-note-all-requires
+note-all-requires c κs = unnoted (c .before .before .before .before .before .before .before .before .before .before .pre .0) _ (c .before .before .before .before .gather .ensures)
+
 tell-links-requires : tie.Need-tell-links-requires
 tell-links-requires c κs =
-    let p = c .before .before .before .before .before .before .before .before .before .before .pre in
-    (gathered-telling (p .0) _ (c .before .before .before .before .gather .ensures), p .1)
-
-mul-wipe : tie.Need-mul-wipe
-mul-wipe c = search needs
-
-mul-wipe-2 : tie.Need-mul-wipe-2
-mul-wipe-2 c = search needs
-
-wipe-requires : tie.Need-wipe-requires
-wipe-requires c κs = search needs
-
-same-length : tie.Need-same-length
-same-length c = search needs
-
-same-length-2 : tie.Need-same-length-2
-same-length-2 c = search needs
+    let p = c .before .before .before .before .before .before .before .before .before .before .before .before .before .before .before .pre in
+    let N = c .before .before .before .before .note-all .ensures in
+    (noted-telling (p .0) _ (c .before .before .before .before .before .before .before .before .before .gather .ensures) _ (N .0) (N .1), p .1)
 
 returns : tie.Need-returns
-returns c = told-settles (c .before .before .before .before .before .before .before .before .before .before .before .before .before .before .before .before .before .before .before .pre .0) _ (c .before .before .before .before .before .before .before .before .before .before .before .before .before .gather .ensures) _ _ (c .before .before .before .before .before .before .before .before .tell-links .ensures) _ (c .before .before .wipe .ensures)
+returns c =
+    let N = c .before .before .before .before .before .before .before .before .before .before .before .before .before .note-all .ensures in
+    told-settles (c .before .before .before .before .before .before .before .before .before .before .before .before .before .before .before .before .before .before .before .before .before .before .before .before .pre .0) _ (c .before .before .before .before .before .before .before .before .before .before .before .before .before .before .before .before .before .before .gather .ensures) _ (N .0) (N .1) _ _ (c .before .before .before .before .before .before .before .before .tell-links .ensures) _ (c .before .before .wipe .ensures)
 
 pub tell-block-spec : {M : Type 1} → statement M
 tell-block-spec =
     tie.close
     (tie.spec
     gather-requires
+    note-all-requires
     tell-links-requires
-    mul-wipe
-    mul-wipe-2
-    wipe-requires
-    same-length
-    same-length-2
+    (λ c. search needs)
+    (λ c. search needs)
+    (λ c κs. search needs)
+    (λ c. search needs)
+    (λ c. search needs)
     returns)
