@@ -66,7 +66,6 @@ fn largest_tables() {
 }
 
 #[test]
-#[ignore = "80 seconds: 'held already' looks through the held links, so a pass grows with their square"]
 fn largest_tables_long_list() {
     largest(200_000, 50_000);
 }
@@ -77,7 +76,6 @@ fn most_held_links() {
 }
 
 #[test]
-#[ignore = "'held already' looks through the held links, so a pass grows with their square"]
 fn most_held_links_of_all() {
     most_held(32_768, 64);
 }

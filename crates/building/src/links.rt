@@ -192,12 +192,12 @@ fn class_differs(
     true
 }
 
-// 'none twice', class by class. A class has some 4n words, which the 12n slots hold; n may be 0.
+// 'none twice', class by class. A class has some 8n words at most, which the 12n slots hold; n may be 0.
 fn none_twice(frag: &mut [u32], held: &[u32], n: usize, count: usize) -> bool
     requires { ⌜ Comparable n count (now frag) (now held) ⌝ }
     ensures { λ r. ⌜ Compares n count (now (frag .entry)) (now (held .entry)) r (now (frag .exit)) ⌝ }
 {
-    let classes = count / (4 * n + 1) + 1;
+    let classes = count / (8 * n + 1) + 1;
     let mut c = 0;
     while c < classes {
         if !class_differs(frag, held, n, count, c, classes) {

@@ -27,10 +27,10 @@ div-classes : tie.Need-div-classes Inv-loop μ-loop
 div-classes c = omega arith
 
 add-classes-2 : tie.Need-add-classes-2 Inv-loop μ-loop
-add-classes-2 c = omega (arith, few-classes (c .before .before .pre) (4 * c .before .before .args .n + 1))
+add-classes-2 c = omega (arith, few-classes (c .before .before .pre) (8 * c .before .before .args .n + 1))
 
 loop-holds : tie.Need-loop-holds Inv-loop μ-loop
-loop-holds c = (omega arith, few-classes (c .before .before .pre) (4 * c .before .before .args .n + 1), sifted-none (c .before .before .pre))
+loop-holds c = (omega arith, few-classes (c .before .before .pre) (8 * c .before .before .args .n + 1), sifted-none (c .before .before .pre))
 
 class-differs-requires : tie.Need-class-differs-requires Inv-loop μ-loop
 class-differs-requires c κs = (c .before .before .loop .inv .2 .comparable, c .before .before .loop .inv .1)
