@@ -25,15 +25,12 @@ use Rattle.building.specs.Index.{flag, Place, Indexed, In, Outside}
 use Rattle.building.specs.Batches.{classOf, classesMost, Differ, Twice, Batchable, Batch, Batches, Recalls, Misses, Sorted, Comparable, Sifts, Compares}
 use Rattle.building.specs.Laws.Scratch.{Blank, blank-at, wiped-back}
 use Rattle.building.specs.Laws.Check.{left, left-whole, left-none, left-next, links-gatherable}
-use Rattle.building.specs.Laws.Index.{home-in, not-noted, is-noted, indexed-none, set-indexed, outside-none}
+use Rattle.building.specs.Laws.Index.{high-part, home-in, not-noted, is-noted, indexed-none, set-indexed, outside-none}
 
 -- A class is one of the classes.
 class-in : (classes w : ℕ) → 0 < classes → classOf classes w < classes
 unfolding classOf
-class-in classes w s =
-    let x = w * 2246822519 % 4294967296 in
-    let l : x < 4294967296 = omega arith in
-    omega (arith, mul-le-mul-right {m = suc x} {n = 4294967296} classes l)
+class-in classes w s = high-part (w * 2246822519 % 4294967296) classes (omega arith) s
 
 -- A word is still noted after another is stored in an empty slot.
 pub in-set : {at size : ℕ} {f : List ℕ} {v : ℕ} (i x : ℕ) → getD f (at + i) 0 ≡ 0 → In at size f v → In at size (set f (at + i) x) v

@@ -11,10 +11,11 @@ use lib.ListN.{length, getD, set, length-set}
 use lib.Seq.{getD-set-same, getD-set-other, take-set-le, drop-set-lt}
 use Rattle.building.specs.Index.{flag, slotsMost, homeOf, Open, Way, Place, Indexed, In, Outside}
 
--- A home is one of the slots.
-high-part : (x m : ℕ) → x < 4294967296 → 0 < m → x * m / 4294967296 < m
+-- The high part of a product is less than its second factor.
+pub high-part : (x m : ℕ) → x < 4294967296 → 0 < m → x * m / 4294967296 < m
 high-part x m l s = omega (arith, mul-le-mul-right {m = suc x} {n = 4294967296} m l)
 
+-- A home is one of the slots.
 pub home-in : (size w : ℕ) → 0 < size → homeOf size w < size
 unfolding homeOf
 home-in size w s =

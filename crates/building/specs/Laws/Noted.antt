@@ -3,19 +3,19 @@
 use Prim.Native.Nat.{ℕ, _+_, _-_, _*_, _%_, _≤_, _<_, min, max}
 use mathlib.Core.Path.{_≡_, refl, sym, ap, subst, _∙_}
 use mathlib.Core.Bool.{true, false}
-use mathlib.Core.List.{List, [], _∷_, _++_, map, append-assoc}
+use mathlib.Core.List.{List, [], _∷_, _++_, map}
 use mathlib.Core.Logic.{_≢_, inl, inr}
 use native.Mathlib.Omega.{arith}
 use native.Mathlib.Decide.{ℕ-discrete, decLt}
 use borrow.Author.Tests.{le-leb, lt-leb}
 use lib.Dec.{leb}
-use lib.ListN.{length, getD, set, take, drop, replicate, length-set, length-append, length-take, length-replicate, List·getD-append, getD-replicate}
-use lib.Seq.{getD-drop, getD-set-same, getD-set-other, take-set-le, drop-set-lt, take-at, drop-at, length-take-le, getD-append-add}
+use lib.ListN.{length, getD, set, take, drop, replicate, length-set, length-replicate, List·getD-append, getD-replicate}
+use lib.Seq.{getD-drop, getD-set-same, getD-set-other, take-set-le, drop-set-lt, length-take-le, getD-append-add}
 use Rattle.base.specs.Truth.{T-ext, T-true, T-false}
 use Rattle.base.specs.Answer.{gives}
 use Rattle.lists.specs.List.{readLink}
 use Rattle.lists.specs.Link.{Accepted, link-accepted}
-use Rattle.rules.specs.Links.{Link, between, linked}
+use Rattle.rules.specs.Links.{Link, linked}
 use Rattle.rules.specs.Laws.Links.{between-here, linked-nil, linked-turn, append-left, snoc-cases, snoc-last}
 use Rattle.state.specs.Layout.{words, linkIn, wordOf}
 use Rattle.state.specs.Laws.Words.{link-word, word-small, word-some}
@@ -24,7 +24,7 @@ use Rattle.building.specs.Pieces.{wiped}
 use Rattle.building.specs.Index.{flag, Place, In}
 use Rattle.building.specs.Pieces.{Ends}
 use Rattle.building.specs.Noted.{slotAt, linkAt, wholeAt, Whole, Noted, Apart, Askable, Flags, Learnable, Flaggable, Stands, Fresh, Matching, Unnoted}
-use Rattle.building.specs.Laws.Scratch.{wiped-length}
+use Rattle.building.specs.Laws.Scratch.{wiped-length, wiped-front, wiped-past}
 use Rattle.building.specs.Laws.Index.{indexed-none, indexed-same, not-noted, is-noted, one-slot, set-indexed}
 use Rattle.building.specs.Laws.Batches.{one-word}
 
@@ -282,23 +282,12 @@ module _ (from to : ℕ) (l : List ℕ) (b : from ≤ to) (g : to ≤ length l) 
       ∙ List·getD-append r (drop to l) 0 (i - from) (omega (arith, length-replicate {A = ℕ} (to - from) 0))
       ∙ getD-replicate (to - from) (i - from) 0 0 (omega arith)
 
-  cleared-front : take from (wiped from to l) ≡ take from l
-  unfolding wiped
-  cleared-front = take-at (take from l) _ from (length-take-le from l (omega arith))
-
-  cleared-past : drop to (wiped from to l) ≡ drop to l
-  unfolding wiped
-  cleared-past =
-      let r : List ℕ = replicate (to - from) 0 in
-      ap (λ x. drop to x) (sym (append-assoc (take from l) r (drop to l)))
-      ∙ drop-at (take from l ++ r) (drop to l) to (simp (length-append, length-take, length-replicate) (omega arith))
-
 module _ {n : ℕ} (f : List ℕ) {f′ : List ℕ} (long : words * n ≤ length f) (e : f′ ≡ wiped (7 * n) (16 * n) f) where
   pub cleared-apart : Apart n f f′
   cleared-apart = rw e (record {
     same-long = wiped-length (7 * n) (16 * n) f (omega arith) long;
-    before = cleared-front (7 * n) (16 * n) f (omega arith) long;
-    past = cleared-past (7 * n) (16 * n) f (omega arith) long;
+    before = wiped-front (7 * n) (16 * n) f (omega arith) long;
+    past = wiped-past (7 * n) (16 * n) f (omega arith) long;
   })
 
   pub cleared-fresh : 0 < n → n ≤ fragmentsMost → Fresh n f′

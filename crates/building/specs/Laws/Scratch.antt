@@ -8,7 +8,7 @@ use native.Mathlib.Numerals.{add-one}
 use native.Mathlib.Nat.{sub-self}
 use lib.Dec.{T}
 use lib.ListN.{length, getD, set, take, drop, replicate, take-append-drop, length-append, length-take, length-drop, length-replicate, getD-replicate}
-use lib.Seq.{drop-cons, set-at, drop-drop, getD-take, getD-drop}
+use lib.Seq.{drop-cons, set-at, drop-drop, take-at, drop-at, getD-take, getD-drop}
 use Rattle.state.specs.Layout.{words, stored}
 use Rattle.state.specs.Test.{allZero}
 use Rattle.state.specs.Laws.Lists.{zeros, drop-take, zeros-between, all-zeros}
@@ -32,6 +32,22 @@ wiped-more from m l b h =
 pub wiped-length : (from to : ℕ) (l : List ℕ) → from ≤ to → to ≤ length l → length (wiped from to l) ≡ length l
 unfolding wiped
 wiped-length from to l b h = simp (length-append, length-take, length-replicate, length-drop) (omega arith)
+
+-- The words before and past the part stay.
+module _ (from to : ℕ) (l : List ℕ) (b : from ≤ to) (g : to ≤ length l) where
+  pub wiped-front : take from (wiped from to l) ≡ take from l
+  unfolding wiped
+  wiped-front = take-at (take from l) _ from (simp length-take (omega arith))
+
+  pub wiped-rest : drop from (wiped from to l) ≡ replicate (to - from) 0 ++ drop to l
+  unfolding wiped
+  wiped-rest = drop-at (take from l) _ from (simp length-take (omega arith))
+
+  pub wiped-past : drop to (wiped from to l) ≡ drop to l
+  wiped-past =
+      let z : to ≡ from + (to - from) = omega arith in
+      ap (λ i. drop i (wiped from to l)) z ∙ sym (drop-drop (to - from) from (wiped from to l)) ∙ ap (λ x. drop (to - from) x) wiped-rest
+      ∙ drop-at (replicate (to - from) 0) (drop to l) (to - from) (length-replicate (to - from) 0)
 
 -- Words that were 0 are 0 again.
 pub wiped-back : (from to : ℕ) (f g : List ℕ) → from ≤ to → to ≤ length f → T (allZero (drop from (take to f))) → take from g ≡ take from f → drop to g ≡ drop to f → wiped from to g ≡ f

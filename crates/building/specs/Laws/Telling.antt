@@ -10,8 +10,8 @@ use native.Mathlib.Decide.{ℕ-discrete}
 use native.Mathlib.Numerals.{add-one}
 use native.Mathlib.Nat.{mul-le-mul}
 use lib.Dec.{T, ltb}
-use lib.ListN.{length, getD, set, take, drop, replicate, length-set, length-append, length-take, length-replicate}
-use lib.Seq.{getD-set-same, getD-set-other, set-getD, drop-set-lt, take-take, drop-drop, take-at, drop-at}
+use lib.ListN.{length, getD, set, take, drop, replicate, length-set, length-append, length-replicate}
+use lib.Seq.{getD-set-same, getD-set-other, set-getD, drop-set-lt, take-take, drop-drop, take-at}
 use Rattle.base.specs.Pick.{pick, pick-true, pick-false, tests}
 use Rattle.base.specs.Answer.{Answer, gives, refuses}
 use Rattle.lists.specs.List.{readLink, linksAt}
@@ -33,7 +33,7 @@ use Rattle.state.specs.Laws.Words.{link-word}
 use Rattle.state.specs.Laws.Layout.{store-note, store-mark, store-held, tables-frag-same}
 use Rattle.building.specs.Pieces.{wiped, Ends, heldMost, Gathered, Finds, Joins, Gatherable, Gathers}
 use Rattle.building.specs.Noted.{Noted, Apart, Askable, Answers, Learnable, Unnoted}
-use Rattle.building.specs.Laws.Scratch.{wiped-length, blank-at}
+use Rattle.building.specs.Laws.Scratch.{wiped-length, wiped-front, wiped-rest, wiped-past, blank-at}
 use Rattle.building.specs.Laws.Pieces.{front-at, rest-at, gathered-by}
 use Rattle.building.specs.Laws.Noted.{noted-none, noted-keeps}
 use Rattle.building.specs.Laws.Gather.{link-there}
@@ -520,22 +520,8 @@ module _ {n k first entries : ℕ} {block f₀ h₀ : List ℕ} {count : ℕ} {f
 
 -- The whole block: the pieces are gathered first, and scratch is cleared at the end.
 module _ (from to : ℕ) (l : List ℕ) (b : from ≤ to) (g : to ≤ length l) where
-  wiped-front : take from (wiped from to l) ≡ take from l
-  unfolding wiped
-  wiped-front = take-at (take from l) _ from (simp length-take (omega arith))
-
-  wiped-rest : drop from (wiped from to l) ≡ replicate (to - from) 0 ++ drop to l
-  unfolding wiped
-  wiped-rest = drop-at (take from l) _ from (simp length-take (omega arith))
-
-  wiped-past : drop to (wiped from to l) ≡ drop to l
-  wiped-past =
-      let z : to ≡ from + (to - from) = omega arith in
-      ap (λ i. drop i (wiped from to l)) z ∙ sym (drop-drop (to - from) from (wiped from to l)) ∙ ap (λ x. drop (to - from) x) wiped-rest
-      ∙ drop-at (replicate (to - from) 0) (drop to l) (to - from) (length-replicate (to - from) 0)
-
   wiped-zero : T (allZero (take (to - from) (drop from (wiped from to l))))
-  wiped-zero = rw (wiped-rest, take-at (replicate (to - from) 0) (drop to l) (to - from) (length-replicate (to - from) 0)) (zeros-pass (to - from))
+  wiped-zero = rw (wiped-rest from to l b g, take-at (replicate (to - from) 0) (drop to l) (to - from) (length-replicate (to - from) 0)) (zeros-pass (to - from))
 
 module _ {n k count : ℕ} {f h : List ℕ} (W : Tellable n k count f h) where
   open Tellable W using (few-fragments, some-room, few-room, long, held-long, underway, as-many, rising, blank)
