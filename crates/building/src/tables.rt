@@ -2,8 +2,8 @@
 ghost use Prim.Native.Nat.{_<_};
 ghost use mathlib.Core.Path.{_≡_};
 ghost use Rattle.rules.specs.Tables.{parentOf, rank, noteOf, markOf};
-ghost use Rattle.state.specs.Layout.{forestIn};
-ghost use Rattle.state.specs.Laws.Tests.{Room, Says};
+ghost use Rattle.state.specs.Layout.{forestIn, Says};
+ghost use Rattle.state.specs.Laws.Tests.{Room};
 
 pub(crate) fn wide(word: u32) -> usize
     ensures { λ r. ⌜ Says r word ⌝ }

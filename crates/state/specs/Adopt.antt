@@ -1,21 +1,21 @@
 -- Adopt: 'Adopt (n, k, a parent table of at least n words, of which the first n are read) gives Built.' Definitions only.
 -- Assumes nothing.
 use Prim.Native.Nat.{ℕ}
-use mathlib.Core.Bool.{false, not}
+use mathlib.Core.Bool.{not}
 use mathlib.Core.List.{List}
 use lib.ListN.{length}
 use lib.Dec.{ltb, eqb}
 use Rattle.base.specs.Pick.{pick}
 use Rattle.base.specs.Answer.{gives, refuses}
 use Rattle.rules.specs.Adopting.{adoptable, adopted}
-use Rattle.state.specs.Layout.{fragOf, heldOf}
+use Rattle.state.specs.Layout.{begun, fragOf, heldOf}
 use Rattle.state.specs.Call.{Begun, boundsRefusal}
 use Rattle.state.specs.declared.State.{State}
 use Rattle.state.specs.declared.Stage.the-variants.{Built}
 
 -- 'after adopt it is 0': the count of passes; 'The entry count becomes 0 at .. adopt'
 abbrev pub adoptedState : ℕ → ℕ → State
-adoptedState n k = record { n = n; k = k; stage = Built; passes = 0; entries = 0; held = 0; crossed = false }
+adoptedState n k = begun n k Built
 
 -- Which of the refusals 1, 2, 3 and 10 is due; 0 where none is.
 unfoldable pub adoptRefusal : (n k : ℕ) → (ps : List ℕ) → (frags helds : ℕ) → ℕ

@@ -10,7 +10,7 @@ use Rattle.base.specs.Answer.{Answer, gives, refuses}
 -- 'n: 1 to 32,768.'
 pub use Rattle.lists.specs.List.{fragmentsMost}
 use Rattle.rules.specs.Tables.{Tables}
-use Rattle.state.specs.Layout.{words, fragOf, heldOf}
+use Rattle.state.specs.Layout.{words, movedOn, fragOf, heldOf}
 use Rattle.state.specs.Test.{sound}
 use Rattle.state.specs.declared.State.{State}
 use Rattle.state.specs.declared.Stage.{Stage}
@@ -64,7 +64,7 @@ headed allowed s f h rest =
 
 -- The state after a call that leaves the tables t.
 unfoldable pub moved : Stage → (passes entries : ℕ) → Tables → State → State
-moved stage passes entries t s = record { n = s .n; k = s .k; stage = stage; passes = passes; entries = entries; held = length (t .held); crossed = t .crossed }
+moved stage passes entries t s = movedOn s stage passes entries (length (t .held)) (t .crossed)
 
 -- What an accepted call leaves: an answer, the state, and the tables t in the words that were lent.
 unfoldable pub leaves : {A : Type 0} → A → State → Tables → List ℕ → List ℕ → Left A

@@ -1,13 +1,23 @@
 -- How the two lent tables hold the tables of the rules. Definitions only; docs/TABLES.md has the layout in words.
 -- Assumes nothing.
-use Prim.Native.Nat.{ℕ, _+_, _-_, _*_, _/_, _%_}
-use mathlib.Core.Bool.{false}
+use Prim.Native.Nat.{ℕ, _+_, _-_, _*_, _/_, _%_, _<_, min, max}
+use mathlib.Core.Path.{_≡_}
+use mathlib.Core.Bool.{Bool, false}
 use mathlib.Core.List.{List, [], _++_, map}
-use lib.ListN.{length, take, drop, replicate}
+use lib.ListN.{length, getD, take, drop, replicate}
 use Rattle.rules.specs.Links.{Link}
 use Rattle.rules.specs.Tables.{Tables}
 use Rattle.state.specs.declared.State.{State}
+use Rattle.state.specs.declared.Stage.{Stage}
 use Rattle.state.specs.declared.Stage.the-variants.{Built}
+
+-- The state that start and adopt give: nothing counted, nothing held.
+abbrev pub begun : ℕ → ℕ → Stage → State
+begun n k stage = record { n = n; k = k; stage = stage; passes = 0; entries = 0; held = 0; crossed = false }
+
+-- The state that a call goes on to.
+abbrev pub movedOn : State → Stage → (passes entries held : ℕ) → Bool → State
+movedOn s stage passes entries held crossed = record { n = s .n; k = s .k; stage = stage; passes = passes; entries = entries; held = held; crossed = crossed }
 
 -- 'the fragment table of at least 16·n'
 abbrev pub words : ℕ
@@ -31,6 +41,13 @@ linkIn w = (w / radix, w % radix)
 unfoldable pub wordOf : Link → ℕ
 wordOf (a, b) = a * radix + b
 
+-- The held link at place i of the held table, and the first `count` of them.
+abbrev pub linkAt : List ℕ → ℕ → Link
+linkAt h i = linkIn (getD h i 0)
+
+abbrev pub linksIn : ℕ → List ℕ → List Link
+linksIn count h = map linkIn (take count h)
+
 -- What a state and its two tables hold.
 unfoldable pub tablesIn : State → List ℕ → List ℕ → Tables
 tablesIn s f h = record {
@@ -38,20 +55,25 @@ tablesIn s f h = record {
   level = section (s .n) 1 f;
   note = section (s .n) 2 f;
   mark = section (s .n) 3 f;
-  held = map linkIn (take (s .held) h);
+  held = linksIn (s .held) h;
   crossed = s .crossed;
 }
 
 -- What the fragment table alone holds: the tables of a state of n fragments with no held link and no false mark.
 abbrev pub bare : ℕ → State
-bare n = record { n = n; k = 0; stage = Built; passes = 0; entries = 0; held = 0; crossed = false }
+bare n = begun n 0 Built
 
 abbrev pub forestIn : ℕ → List ℕ → Tables
 forestIn n f = tablesIn (bare n) f []
 
--- The first m words cleared.
-unfoldable pub zeroed : ℕ → List ℕ → List ℕ
-zeroed m l = replicate m 0 ++ drop m l
+-- What a word says, in a number.
+pub record Says (r x : ℕ) : Type 0 where
+  pub says : r ≡ x
+  pub small : r < 4294967296
+
+-- The words of a table from one place to another cleared, as far as it goes.
+unfoldable pub wiped : ℕ → ℕ → List ℕ → List ℕ
+wiped from to l = take from l ++ (replicate (min to (length l) - from) 0 ++ drop (max from to) l)
 
 -- The fragment table that holds the tables t, over the words that stood there: scratch is 0, words past 16·n stay.
 unfoldable pub fragOf : ℕ → Tables → List ℕ → List ℕ

@@ -3,9 +3,20 @@ ghost use mathlib.Core.Path.{_≡_};
 ghost use Rattle.state.specs.Told.{begunTold};
 ghost use Rattle.state.specs.Call.{boundsRefusal};
 ghost use Rattle.state.specs.Start.{startCall};
+ghost use Rattle.state.specs.Layout.{begun as beginning, movedOn};
 use numbers::Refusal;
 
-mod fill;
+mod stages;
+mod words;
+
+pub use stages::is_building;
+pub use stages::is_built;
+pub use stages::is_read;
+pub use stages::is_reading;
+pub use stages::may_open;
+pub use words::clear;
+pub use words::wide;
+pub use words::zeros;
 
 pub enum Stage {
     Building,
@@ -99,6 +110,43 @@ impl State {
     // Words of the fragment table for each fragment.
     pub const WORDS: usize = 16;
 
+    // The state that start and adopt give.
+    pub fn begun(n: usize, k: usize, stage: Stage) -> State
+        ensures { λ r. ⌜ r ≡ beginning n k stage ⌝ }
+    {
+        State {
+            n: n,
+            k: k,
+            stage: stage,
+            passes: 0,
+            entries: 0,
+            held: 0,
+            crossed: false,
+        }
+    }
+
+    // The state that a call goes on to.
+    pub fn moved(
+        self,
+        stage: Stage,
+        passes: usize,
+        entries: usize,
+        held: usize,
+        crossed: bool,
+    ) -> State
+        ensures { λ r. ⌜ r ≡ movedOn self stage passes entries held crossed ⌝ }
+    {
+        State {
+            n: self.n,
+            k: self.k,
+            stage: stage,
+            passes: passes,
+            entries: entries,
+            held: held,
+            crossed: crossed,
+        }
+    }
+
     // Building with nothing placed, in tables that are cleared as far as the state reaches.
     pub fn start(n: usize, k: usize, frag: &mut [u32], held: &mut [u32]) -> Started
         ensures { λ r. ⌜ begunTold r (now (frag .exit)) (now (held .exit)) ≡ startCall n k (now (frag .entry)) (now (held .entry)) ⌝ }
@@ -110,16 +158,8 @@ impl State {
                 place: 0,
             });
         }
-        fill::clear(frag, State::WORDS * n);
-        fill::clear(held, k * n);
-        Started::Ready(State {
-            n: n,
-            k: k,
-            stage: Stage::Building,
-            passes: 0,
-            entries: 0,
-            held: 0,
-            crossed: false,
-        })
+        clear(frag, 0, State::WORDS * n);
+        clear(held, 0, k * n);
+        Started::Ready(State::begun(n, k, Stage::Building))
     }
 }

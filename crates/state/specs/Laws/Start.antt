@@ -1,47 +1,45 @@
 -- The answers of start, and what a cleared table holds.
 -- Assumes nothing.
-use Prim.Native.Nat.{ℕ, _+_, _-_, _*_, _<_}
+use Prim.Native.Nat.{ℕ, _-_, _*_, _≤_, _<_}
 use mathlib.Core.Path.{_≡_, refl, sym, ap, _∙_}
 use mathlib.Core.List.{List, _++_}
 use native.Mathlib.Omega.{arith}
-use borrow.Author.Fill.{fill-more}
-use lib.ListN.{length, set, drop, replicate, length-replicate}
+use lib.ListN.{length, drop, replicate, length-replicate}
 use Rattle.base.specs.Pick.{tests}
 use Rattle.rules.specs.Tables.{fresh, placed, parentOf}
 use Rattle.rules.specs.Building.{done}
 use Rattle.rules.specs.Laws.Links.{linked-nil}
 use Rattle.rules.specs.Laws.Tables.{fresh-standing, fresh-rested, fresh-loose, placed-loose, getD-zeros}
 use Rattle.rules.specs.Laws.Search.{every-at}
-use Rattle.state.specs.Layout.{zeroed, words, tablesIn, fragOf, heldOf}
+use Rattle.state.specs.Layout.{wiped, words, tablesIn, fragOf, heldOf}
 use Rattle.state.specs.Call.{Begun, boundsRefusal}
 use Rattle.state.specs.Start.{started, startCall}
 use Rattle.state.specs.Told.{begunTold}
 use Rattle.state.specs.Laws.Lists.{zeros}
+use Rattle.state.specs.Laws.Clear.{wiped-is}
 use Rattle.state.specs.Laws.Lay.{tables-laid}
 use Rattle.state.specs.Laws.Sound.{Agrees}
 use Rattle.state.specs.Laws.Keeps.{rested-agrees}
+use Rattle.state.specs.declared.State.{State}
 use Rattle.state.specs.declared.Started.{Started}
 use Rattle.state.specs.declared.Started.the-variants.{Ready, Refused}
 
-pub zeroed-none : (l : List ℕ) → l ≡ zeroed 0 l
-unfolding zeroed
-zeroed-none l = refl
+-- Cleared from the first word on.
+first-wiped : (m : ℕ) (l : List ℕ) → m ≤ length l → wiped 0 m l ≡ replicate m 0 ++ drop m l
+first-wiped m l h = let e : m - 0 ≡ m = omega arith in wiped-is 0 m l (omega arith) h ∙ ap (λ i. replicate i 0 ++ drop m l) e
 
-pub zeroed-more : (m : ℕ) (l : List ℕ) → m < length l → set (zeroed m l) m 0 ≡ zeroed (m + 1) l
-unfolding zeroed
-zeroed-more m l h = fill-more m 0 l h
-
-pub frag-fresh : (n : ℕ) (f : List ℕ) → zeroed (words * n) f ≡ fragOf n (fresh n) f
-unfolding zeroed fragOf fresh
-frag-fresh n f =
+pub frag-fresh : (n : ℕ) (f : List ℕ) → words * n ≤ length f → wiped 0 (words * n) f ≡ fragOf n (fresh n) f
+unfolding fragOf fresh
+frag-fresh n f h =
+    first-wiped (16 * n) f h ∙
     zeros n (15 * n) (16 * n) (drop (16 * n) f) (omega arith) ∙ ap (λ l. replicate {A = ℕ} n 0 ++ l)
     (zeros n (14 * n) (15 * n) (drop (16 * n) f) (omega arith) ∙ ap (λ l. replicate {A = ℕ} n 0 ++ l)
     (zeros n (13 * n) (14 * n) (drop (16 * n) f) (omega arith) ∙ ap (λ l. replicate {A = ℕ} n 0 ++ l)
     (zeros n (12 * n) (13 * n) (drop (16 * n) f) (omega arith))))
 
-pub held-fresh : (n k : ℕ) (h : List ℕ) → zeroed (k * n) h ≡ heldOf n k (fresh n) h
-unfolding zeroed heldOf fresh
-held-fresh n k h = let e : k * n ≡ k * n - 0 = omega arith in ap (λ m. replicate {A = ℕ} m 0 ++ drop (k * n) h) e
+pub held-fresh : (n k : ℕ) (h : List ℕ) → k * n ≤ length h → wiped 0 (k * n) h ≡ heldOf n k (fresh n) h
+unfolding heldOf fresh
+held-fresh n k h l = let e : k * n ≡ k * n - 0 = omega arith in first-wiped (k * n) h l ∙ ap (λ m. replicate {A = ℕ} m 0 ++ drop (k * n) h) e
 
 -- The two answers of a call that begins a state.
 module _ (n k : ℕ) (f h : List ℕ) where
@@ -49,9 +47,9 @@ module _ (n k : ℕ) (f h : List ℕ) where
   unfolding startCall
   start-refused r e p = rw (← e) (simp tests)
 
-  pub start-ready : boundsRefusal n k (length f) (length h) ≡ 0 → (f′ h′ : List ℕ) → f′ ≡ fragOf n (fresh n) f → h′ ≡ heldOf n k (fresh n) h → begunTold (Ready (started n k)) f′ h′ ≡ startCall n k f h
+  pub start-ready : boundsRefusal n k (length f) (length h) ≡ 0 → (s : State) → s ≡ started n k → (f′ h′ : List ℕ) → f′ ≡ fragOf n (fresh n) f → h′ ≡ heldOf n k (fresh n) h → begunTold (Ready s) f′ h′ ≡ startCall n k f h
   unfolding startCall
-  start-ready e f′ h′ p q = rw (e, p, q) (simp tests)
+  start-ready e s a f′ h′ p q = rw (e, a, p, q) (simp tests)
 
 no-parent : (n v : ℕ) → parentOf (fresh n) v ≡ 0
 unfolding fresh parentOf

@@ -1,15 +1,15 @@
 -- The answers of tests that every stage asks: one fragment of the forest, every fragment, and words that are 0.
 -- Assumes nothing.
-use Prim.Native.Nat.{ℕ, suc, _+_, _-_, _*_, _≤_, _<_}
+use Prim.Native.Nat.{ℕ, suc, _+_, _-_, _*_, _≤_, _<_, min}
 use mathlib.Core.Path.{_≡_, refl, sym, _∙_}
 use mathlib.Core.Bool.{Bool, true, false, _&&_}
 use mathlib.Core.List.{List}
 use native.Mathlib.Omega.{arith}
-use native.Mathlib.Decide.{ℕ-discrete}
+use native.Mathlib.Decide.{ℕ-discrete, decLe}
 use native.Mathlib.Numerals.{add-one}
 use lib.Dec.{eqb, ltb}
-use lib.ListN.{length, getD, take, drop}
-use lib.Seq.{drop-cons}
+use lib.ListN.{length, getD, take, drop, drop-of-length-le}
+use lib.Seq.{drop-cons, take-nil}
 use borrow.Author.Tests.{le-ltb, eq-eqb, ne-eqb}
 use Rattle.base.specs.Pick.{tests}
 use Rattle.base.specs.Truth.{T-false, false-T}
@@ -26,11 +26,6 @@ use Rattle.state.specs.declared.Stage.{Stage}
 pub record Room (n : ℕ) (f : List ℕ) : Type 0 where
   pub few : n ≤ fragmentsMost
   pub long : words * n ≤ length f
-
--- What a word says, in a number.
-pub record Says (r x : ℕ) : Type 0 where
-  pub says : r ≡ x
-  pub small : r < 4294967296
 
 none-of : (a b : Bool) → false ≡ (a && (b && false))
 none-of true true = refl
@@ -90,6 +85,13 @@ module _ (p : ℕ → Bool) where
 pub zero-none : (l : List ℕ) (m : ℕ) → m ≡ 0 → true ≡ allZero (take m l)
 unfolding allZero
 zero-none l m e = rw e
+
+pub zero-ends : (l : List ℕ) (i e : ℕ) → min e (length l) ≤ i → true ≡ allZero (take (e - i) (drop i l))
+unfolding allZero
+zero-ends l i e h = elim (decLe e i) [
+  | yes g ↦ zero-none (drop i l) (e - i) (omega arith)
+  | no g ↦ rw (drop-of-length-le l {i = i} (omega arith), take-nil (e - i))
+]
 
 pub zero-more : (l : List ℕ) (i e : ℕ) → i < length l → i < e → getD l i 0 ≡ 0 → allZero (take (e - (i + 1)) (drop (i + 1) l)) ≡ allZero (take (e - i) (drop i l))
 unfolding allZero

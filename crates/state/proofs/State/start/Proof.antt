@@ -8,13 +8,6 @@ use Rattle.state.specs.Laws.Start.{start-refused, start-ready, frag-fres
 use borrow.Author.Needs.{needs}
 use Rattle.state.proofs.State.start.Statement.{statement}
 use Rattle.state.proofs.State.start.Tie as tie
-use Rattle.state.proofs.State.start.Reads as reads
-use Rattle.state.proofs.State.start.Lts as lts
-use Rattle.state.proofs.bounds.Reads as bounds-reads
-use Rattle.state.proofs.fill.clear.Reads as clear-reads
-
-bounds-requires : tie.Need-bounds-requires
-bounds-requires c κs = search needs
 
 returns : tie.Need-returns
 returns c = start-refused _ _ _ _ _ (c .before .bounds .ensures) (omega arith)
@@ -24,42 +17,28 @@ mul-clear c =
     let b = bounds-known _ _ _ _ (sym (c .before .before .bounds .ensures) ∙ omega arith) in
     omega arith
 
-clear-requires : tie.Need-clear-requires
-clear-requires c κs =
-    let b = bounds-known _ _ _ _ (sym (c .before .before .bounds .ensures) ∙ omega arith) in
-    omega arith
-
 mul-clear-2 : tie.Need-mul-clear-2
 mul-clear-2 c =
     let b = bounds-known _ _ _ _ (sym (c .before .before .before .before .before .before .bounds .ensures) ∙ omega arith) in
     omega (arith, mul-le-mul (b .room) (b .fragments))
 
-clear-requires-2 : tie.Need-clear-requires-2
-clear-requires-2 c κs =
-    let b = bounds-known _ _ _ _ (sym (c .before .before .before .before .before .before .bounds .ensures) ∙ omega arith) in
-    omega arith
-
-same-length : tie.Need-same-length
-same-length c = search needs
-
-same-length-2 : tie.Need-same-length-2
-same-length-2 c = search needs
-
 returns-2 : tie.Need-returns-2
 returns-2 c =
-    let b = c .before .before .before .before .before .before .before .before .before in
-    start-ready _ _ _ _ (sym (b .bounds .ensures) ∙ omega arith) _ _ (c .before .before .before .before .before .before .clear .ensures ∙ frag-fresh _ _) (c .before .before .clear2 .ensures ∙ held-fresh _ _ _)
+    let e = sym (c .before .before .before .before .before .before .before .before .before .before .bounds .ensures) ∙ c .before .before .before .before .before .before .before .before .before .if1 .left in
+    let b = bounds-known _ _ _ _ e in
+    start-ready _ _ _ _ e _ (c .begun .ensures) _ _ (c .before .before .before .before .before .before .before .clear .ensures ∙ frag-fresh _ _ (b .frag-long)) (c .before .before .before .clear2 .ensures ∙ held-fresh _ _ _ (b .held-long))
 
 pub start-spec : {M : Type 1} → statement M
 start-spec =
     tie.close
     (tie.spec
-    bounds-requires
+    (λ c κs. search needs)
     returns
     mul-clear
-    clear-requires
+    (λ c κs. search needs)
     mul-clear-2
-    clear-requires-2
-    same-length
-    same-length-2
+    (λ c κs. search needs)
+    (λ c κs. search needs)
+    (λ c. search needs)
+    (λ c. search needs)
     returns-2)

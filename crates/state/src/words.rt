@@ -1,0 +1,48 @@
+// Words of a table from one place to another: what they say, clearing them, and whether they are 0.
+ghost use mathlib.Core.Path.{_≡_};
+ghost use Prim.Native.Nat.{_-_, min};
+ghost use lib.ListN.{take, drop};
+ghost use Rattle.state.specs.Layout.{wiped, Says};
+ghost use Rattle.state.specs.Test.{allZero};
+
+pub fn wide(word: u32) -> usize
+    ensures { λ r. ⌜ Says r word ⌝ }
+{
+    word as usize
+}
+
+fn least(a: usize, b: usize) -> usize
+    ensures { λ r. ⌜ r ≡ min a b ⌝ }
+{
+    if a < b {
+        return a;
+    }
+    b
+}
+
+// The words from `from` to `to` become 0, as far as the table goes.
+pub fn clear(words: &mut [u32], from: usize, to: usize)
+    ensures { λ r. ⌜ now (words .exit) ≡ wiped from to (now (words .entry)) ⌝ }
+{
+    let end = least(to, words.len());
+    let mut i = from;
+    while i < end {
+        words[i] = 0;
+        i += 1;
+    }
+}
+
+// Whether the words from `from` to `to` are 0, as far as the table goes.
+pub fn zeros(words: &[u32], from: usize, to: usize) -> bool
+    ensures { λ r. ⌜ r ≡ allZero (take (to - from) (drop from (now (words .entry)))) ⌝ }
+{
+    let end = least(to, words.len());
+    let mut i = from;
+    while i < end {
+        if words[i] != 0 {
+            return false;
+        }
+        i += 1;
+    }
+    true
+}
