@@ -18,7 +18,7 @@ use Rattle.rules.specs.Building.{alone, merged, piecesFrom, pieces, member, siz
 use Rattle.rules.specs.Adopting.{rootedIn, adoptable, adopted}
 use Rattle.rules.specs.Reading.{above, hear, readLink, readLinks, seen, accepted, lowest, reach, childOf, soleBelow, sole, cut, rootOf, piece}
 use Rattle.rules.specs.Known.{Instance, build, adopt, Result, reports, refused, row, square, triangle, instances}
-use Rattle.state.specs.Layout.{words, section, linkIn, wordOf, tablesIn, zeroed, fragOf, heldOf}
+use Rattle.state.specs.Layout.{words, section, linkIn, wordOf, tablesIn, fragOf, heldOf}
 use Rattle.state.specs.Test.{asked, allZero, stageFits, standsAt, forestFits, endsFit, noneTwice, quotaFits, heldFits, noteFits, clearAt, lowFits, notesFit, restZero, countsFit, readFits, markFits, restAgrees, fits, sound}
 use Rattle.state.specs.Call.{Begun, boundsRefusal, headRefusal, headed, moved, leaves}
 use Rattle.state.specs.Start.{startCall}
@@ -85,5 +85,5 @@ calledResult (adopt ps g) =
 
 -- P1 to P10 as one table.
 pub known-calls : map (λ r. calledResult (r .instance)) instances ≡ map (λ r. r .result) instances
-unfolding pick between linked tally up depth count some every first least table listed parentOf rank noteOf markOf placed par lev fresh place putNote putMark putHeld putCrossed cleared alone merged piecesFrom pieces member sizeOf heldIn better noteLink hold fill holdLink buildLink buildLinks noted topOf hang nextOf reachNext goBack walkStep walkSteps walked placePath lost placeWalk placePiece placeFrom placePieces closeBuilding done pass passes rootedIn adoptable adopted above hear readLink readLinks seen accepted lowest reach childOf soleBelow sole cut rootOf piece row square triangle instances onto readGroups atMost readUpTo readNumber groupsOf writtenNumber andThen placedAt joins counts readEnds readLinkAt before linksIn linksAt blockLinks writtenLinks section linkIn wordOf tablesIn zeroed fragOf heldOf asked allZero stageFits standsAt forestFits endsFit noneTwice quotaFits heldFits noteFits clearAt lowFits notesFit restZero countsFit readFits markFits restAgrees fits sound boundsRefusal headRefusal headed moved leaves startCall adoptRefusal adoptCall tell taken takeIn takeCall openCall endBuilding endReading closeIn closeCall askOne askTwo parentCall cutCall soleCall afterTake afterClose afterOpen step begunBy opening parentsTo solesTo reportedBy passBy passesBy readBy begunThen calledResult
+unfolding pick between linked tally up depth count some every first least table listed parentOf rank noteOf markOf placed par lev fresh place putNote putMark putHeld putCrossed cleared alone merged piecesFrom pieces member sizeOf heldIn better noteLink hold fill holdLink buildLink buildLinks noted topOf hang nextOf reachNext goBack walkStep walkSteps walked placePath lost placeWalk placePiece placeFrom placePieces closeBuilding done pass passes rootedIn adoptable adopted above hear readLink readLinks seen accepted lowest reach childOf soleBelow sole cut rootOf piece row square triangle instances onto readGroups atMost readUpTo readNumber groupsOf writtenNumber andThen placedAt joins counts readEnds readLinkAt before linksIn linksAt blockLinks writtenLinks section linkIn wordOf tablesIn fragOf heldOf asked allZero stageFits standsAt forestFits endsFit noneTwice quotaFits heldFits noteFits clearAt lowFits notesFit restZero countsFit readFits markFits restAgrees fits sound boundsRefusal headRefusal headed moved leaves startCall adoptRefusal adoptCall tell taken takeIn takeCall openCall endBuilding endReading closeIn closeCall askOne askTwo parentCall cutCall soleCall afterTake afterClose afterOpen step begunBy opening parentsTo solesTo reportedBy passBy passesBy readBy begunThen calledResult
 known-calls = refl

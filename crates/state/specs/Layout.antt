@@ -42,11 +42,11 @@ unfoldable pub wordOf : Link → ℕ
 wordOf (a, b) = a * radix + b
 
 -- The held link at place i of the held table, and the first `count` of them.
-abbrev pub linkAt : List ℕ → ℕ → Link
-linkAt h i = linkIn (getD h i 0)
+abbrev pub heldLink : List ℕ → ℕ → Link
+heldLink h i = linkIn (getD h i 0)
 
-abbrev pub linksIn : ℕ → List ℕ → List Link
-linksIn count h = map linkIn (take count h)
+abbrev pub heldLinks : ℕ → List ℕ → List Link
+heldLinks count h = map linkIn (take count h)
 
 -- What a state and its two tables hold.
 unfoldable pub tablesIn : State → List ℕ → List ℕ → Tables
@@ -55,7 +55,7 @@ tablesIn s f h = record {
   level = section (s .n) 1 f;
   note = section (s .n) 2 f;
   mark = section (s .n) 3 f;
-  held = linksIn (s .held) h;
+  held = heldLinks (s .held) h;
   crossed = s .crossed;
 }
 
