@@ -12,9 +12,9 @@ use lib.ListN.{length, length-append}
 use borrow.Author.Tests.{lt-leb}
 use Rattle.base.specs.Pick.{pick, pick-false, tests}
 use Rattle.base.specs.Answer.{Answer, gives, refuses}
-use Rattle.lists.specs.List.{andThen, before, Link, LinkAt, readLink, linksIn, linksAt, blockLinks}
+use Rattle.lists.specs.List.{fragmentsMost, andThen, before, Link, LinkAt, readLink, scanLink, linksIn, linksAt, blockLinks, scanBlock}
 use Rattle.lists.specs.Words.{shifted}
-use Rattle.lists.specs.Link.{andThen-same, andThen-gives, answered, never-both, link-accepted, link-behind, link-more, ahead}
+use Rattle.lists.specs.Link.{andThen-same, andThen-gives, answered, never-both, sized-gives, sized-within, link-accepted, link-behind, link-more, ahead}
 
 module _ (n : ℕ) (s : List ℕ) where
   -- Turns enough are as good as more.
@@ -69,6 +69,36 @@ module _ (n : ℕ) (s : List ℕ) where
         let (ms, q′, r′) = andThen-gives (linksAt n (e + 1) s (l .next)) _ ls r in
         inr (l, ms, q, q′, cc)
   ]
+
+  -- Where links that are accepted are left, the next one alone is given.
+  pub link-there : n ≤ fragmentsMost → (e at : ℕ) (ls : List Link) → linksAt n e s at ≡ gives ls → at < length s
+      → (number place : ℕ) → scanLink n e s at ≡ refuses number place → ⊥
+  unfolding scanLink
+  link-there few e at ls p h number place r = elim (walked e at ls p) [
+    | inl (k, z) ↦ omega arith
+    | inr (l, ms, q, q′, z) ↦
+        let a = link-accepted n e s at l q in
+        never-both (sized-within n (readLink n e s at) (λ y. omega arith) few ∙ q) r
+  ]
+
+-- A count is given or refused as the links are.
+pub count-gives : (x : Answer (List Link)) (count : ℕ) → (andThen x λ ls. gives (length ls)) ≡ gives count → (ls : List Link) × (x ≡ gives ls) × (count ≡ length ls)
+count-gives x count e = let (ls, p, q) = andThen-gives x _ count e in (ls, p, cc)
+
+pub count-refuses : (x : Answer (List Link)) (number place : ℕ) → (andThen x λ ls. gives (length ls)) ≡ refuses number place → x ≡ refuses number place
+unfolding andThen
+count-refuses (gives ls) number place e = absurd (never-both refl e)
+count-refuses (refuses k p) number place e = cc
+
+-- So is the scan of a block, for an n within its bounds.
+module _ (n e : ℕ) (s : List ℕ) where
+  pub scan-gives : (count : ℕ) → scanBlock n e s ≡ gives count → (ls : List Link) × (blockLinks n e s ≡ gives ls) × (count ≡ length ls)
+  unfolding scanBlock
+  scan-gives count r = count-gives (blockLinks n e s) count (sized-gives n _ count r .2)
+
+  pub scan-refuses : (n ≡ 0 → ⊥) → n ≤ fragmentsMost → (number place : ℕ) → scanBlock n e s ≡ refuses number place → blockLinks n e s ≡ refuses number place
+  unfolding scanBlock
+  scan-refuses z h number place r = count-refuses (blockLinks n e s) number place (sym (sized-within n _ z h) ∙ r)
 
 before-refuses : (l : Link) (x : Answer (List Link)) (number place : ℕ) → before l x ≡ refuses number place → x ≡ refuses number place
 unfolding before andThen

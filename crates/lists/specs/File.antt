@@ -12,14 +12,9 @@ use Rattle.base.specs.Answer.{Answer, gives, refuses}
 use Rattle.numbers.specs.Number.{readNumber}
 use Rattle.lists.specs.List.{noSize, Link, linksAt, andThen, sized, LinkAt, readEnds, readList, fileLinks, cutAfter, cutIn, cutAt}
 use Rattle.numbers.specs.Laws.{number-none}
-use Rattle.lists.specs.Link.{no-first, ends-told, andThen-gives, never-both, Ends, NoEnds, ends-are, ends-are-not, ends-within}
+use Rattle.lists.specs.Link.{no-first, ends-told, Ends, NoEnds, ends-are, ends-are-not, ends-within}
+use Rattle.lists.specs.Block.{count-gives, count-refuses}
 use Rattle.lists.specs.Scan.{scanFrom}
-
--- A scan refuses as the links are refused.
-scan-refused : (x : Answer (List Link)) (number place : ℕ) → (andThen x λ ls. gives (length ls)) ≡ refuses number place → x ≡ refuses number place
-unfolding andThen
-scan-refused (gives ls) number place e = absurd (never-both refl e)
-scan-refused (refuses k p) number place e = cc
 
 -- The answers of reading a list file.
 module _ (s : List ℕ) where
@@ -35,7 +30,7 @@ module _ (s : List ℕ) where
     module _ (h : noSize n ≡ false) where
       pub file-list : (count : ℕ) → scanFrom n 0 s begins ≡ gives count → gives (record { fragments = n; begins = begins; count = count }) ≡ readList s
       unfolding andThen readList fileLinks sized scanFrom
-      file-list count p = let (ls, q, z) = andThen-gives (linksAt n 0 s begins) _ count p in go ls q (cc)
+      file-list count p = let (ls, q, z) = count-gives (linksAt n 0 s begins) count p in go ls q z
         where
           go : (ls : List Link) → linksAt n 0 s begins ≡ gives ls → count ≡ length ls
               → gives (record { fragments = n; begins = begins; count = count }) ≡ readList s
@@ -43,7 +38,7 @@ module _ (s : List ℕ) where
 
       pub file-bad : (number place : ℕ) → scanFrom n 0 s begins ≡ refuses number place → refuses number place ≡ readList s
       unfolding andThen readList fileLinks sized scanFrom
-      file-bad number place p = rw r (simp (h, pick-false, scan-refused (linksAt n 0 s begins) number place p))
+      file-bad number place p = rw r (simp (h, pick-false, count-refuses (linksAt n 0 s begins) number place p))
 
 -- The cut's steps: from a link on, the cut is the same.
 cut-none : (s : List ℕ) (k at : ℕ) → length s ≤ at → cutIn k s at ≡ at

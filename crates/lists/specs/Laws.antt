@@ -1,5 +1,6 @@
 -- The laws of blocks and list files, over the definitions of List.antt alone.
 -- Assumes nothing.
+use mathlib.Core.Bool.{Bool, true, false}
 use mathlib.Core.List.{List, [], _∷_, _++_, append-assoc}
 use mathlib.Core.Logic.{inl, inr}
 use mathlib.Core.Path.{_≡_, refl, sym, ap, _∙_}
@@ -9,7 +10,7 @@ use native.Mathlib.Decide.{decLt}
 use Prim.Native.Nat.{ℕ, _+_, _-_, _≤_, _<_}
 use lib.ListN.{length, take, drop, length-append, length-drop, take-append-drop, drop-of-length-le}
 use lib.Seq.{drop-at, length-take-le, take-append-seam}
-use Rattle.base.specs.Pick.{tests}
+use Rattle.base.specs.Pick.{pick, pick-true, pick-false, tests}
 use Rattle.base.specs.Answer.{Answer, gives, refuses}
 use Rattle.numbers.specs.Number.{writtenNumber, groupsMost, put}
 use Rattle.numbers.specs.Words.{Bytes}
@@ -56,10 +57,17 @@ count-join by f (gives ls) = go (f (length ls))
 
 pub scans-join : (n e : ℕ) (s t : List ℕ) → ((place : ℕ) → blockLinks n e s ≡ refuses 8 place → ⊥)
     → scanBlock n e (s ++ t) ≡ andThen (scanBlock n e s) λ c. andThen (shifted (length s) (scanBlock n (e + c) t)) λ d. gives (c + d)
-unfolding scanBlock
-scans-join n e s t c =
-    ap (λ (x : Answer (List Link)). andThen x λ ls. gives (length ls)) (blocks-join n e s t c)
-    ∙ count-join (length s) (λ k. blockLinks n (e + k) t) (blockLinks n e s)
+unfolding scanBlock sized andThen
+scans-join n e s t c = go (noSize n)
+  where
+    go : (b : Bool) → pick b (refuses 1 0) (andThen (blockLinks n e (s ++ t)) λ ls. gives (length ls))
+        ≡ andThen (pick b (refuses 1 0) (andThen (blockLinks n e s) λ ls. gives (length ls))) λ c.
+        andThen (shifted (length s) (pick b (refuses 1 0) (andThen (blockLinks n (e + c) t) λ ls. gives (length ls)))) λ d. gives (c + d)
+    go true = simp pick-true
+    go false =
+        simp pick-false
+        (ap (λ (x : Answer (List Link)). andThen x λ ls. gives (length ls)) (blocks-join n e s t c)
+        ∙ count-join (length s) (λ k. blockLinks n (e + k) t) (blockLinks n e s))
 
 -- A refusal depends on no byte after the first bad link: bytes that are the same up to the last that is looked at of it are refused the same.
 -- (Where the end decides, 8, no byte comes after it.) Of a bad link at most two numbers' bytes are looked at.

@@ -9,10 +9,10 @@ use Prim.Native.Nat.{ℕ, _+_, _≤_, _<_}
 use lib.Dec.{leb, ltb, eqb}
 use lib.ListN.{length, take}
 use borrow.Author.Tests.{leb-false, ltb-false, eqb-false}
-use Rattle.base.specs.Pick.{pick}
+use Rattle.base.specs.Pick.{pick, pick-true, pick-false, tests}
 use Rattle.base.specs.Answer.{Answer, gives, refuses}
 use Rattle.numbers.specs.Number.{Numeral, readNumber}
-use Rattle.lists.specs.List.{fragmentsMost, noSize, sized, andThen, placed, joins, counts, LinkAt, readEnds, readLink, entriesMost}
+use Rattle.lists.specs.List.{fragmentsMost, noSize, sized, andThen, placed, joins, counts, LinkAt, readEnds, readLink, scanLink, entriesMost}
 use Rattle.lists.specs.Words.{shifted}
 use Rattle.numbers.specs.Laws.{number-within, number-refusal}
 use Rattle.lists.specs.Numbers.{given-more, given-less, given-behind, refused-more, refused-behind}
@@ -202,6 +202,25 @@ sized-gives n rest x e =
     let (z, h) = size-good n f in
     (z, h, q)
 
+-- Past the bounds of n 1 is refused, whatever else there is; within them nothing is.
+module _ {A : Type 0} (n : ℕ) (rest : Answer A) where
+  pub sized-past : noSize n ≡ true → refuses 1 0 ≡ sized n rest
+  unfolding sized
+  sized-past h = simp (h, pick-true)
+
+  pub sized-on : noSize n ≡ false → sized n rest ≡ rest
+  unfolding sized
+  sized-on h = simp (h, pick-false)
+
+  pub sized-within : (n ≡ 0 → ⊥) → n ≤ fragmentsMost → sized n rest ≡ rest
+  unfolding noSize
+  sized-within z h = sized-on (simp tests)
+
+-- A link that was given alone was read.
+pub link-read : (n entries : ℕ) (s : List ℕ) (at : ℕ) (l : LinkAt) → scanLink n entries s at ≡ gives l → readLink n entries s at ≡ gives l
+unfolding scanLink
+link-read n entries s at l e = sized-gives n (readLink n entries s at) l e .2
+
 -- The ends of a link that was not refused for them.
 pub joins-gives : {A : Type 0} (n a b at : ℕ) (rest : Answer A) (x : A) → joins n a b at rest ≡ gives x
     → (a < n) × (b < n) × (a ≡ b → ⊥) × (rest ≡ gives x)
@@ -237,6 +256,9 @@ link-accepted n entries s at l e = go (readEnds s at) refl e
           told = d;
         } in
         rw z at it
+
+pub link-told : (n entries : ℕ) (s : List ℕ) (at : ℕ) (l : LinkAt) → scanLink n entries s at ≡ gives l → Accepted n entries s at l
+link-told n entries s at l e = link-accepted n entries s at l (link-read n entries s at l e)
 
 -- The tests of a link whose numbers were read refuse it where it begins, and not for its end.
 tests-refuse : (at : ℕ) (l : LinkAt) (number place : ℕ) (f g h i : Bool)

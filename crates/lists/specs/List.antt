@@ -85,9 +85,13 @@ linksAt n entries s at = linksIn (length s - at) n entries s at
 unfoldable pub blockLinks : (n entries : ℕ) → List ℕ → Answer (List Link)
 blockLinks n entries s = linksAt n entries s 0
 
--- How many links a block holds.
+-- How many links a block holds. A block alone is scanned for an n that is given, and so 1 comes before its links.
 unfoldable pub scanBlock : (n entries : ℕ) → List ℕ → Answer ℕ
-scanBlock n entries s = andThen (blockLinks n entries s) λ ls. gives (length ls)
+scanBlock n entries s = sized n (andThen (blockLinks n entries s) λ ls. gives (length ls))
+
+-- A link alone, the same.
+unfoldable pub scanLink : (n entries : ℕ) → List ℕ → ℕ → Answer LinkAt
+scanLink n entries s at = sized n (readLink n entries s at)
 
 -- What a list file tells: n, the byte where the links begin, the links.
 pub record ListFile : Type 0 where

@@ -12,8 +12,8 @@ use lib.ListN.{length}
 use Rattle.base.specs.Pick.{pick, tests}
 use Rattle.base.specs.Answer.{Answer, gives, refuses}
 use Rattle.numbers.specs.Number.{readNumber}
-use Rattle.lists.specs.List.{entriesMost, andThen, before, joins, counts, Link, LinkAt, readLink, linksAt}
-use Rattle.lists.specs.Link.{Ends, NoEnds, no-first, no-second, link-is}
+use Rattle.lists.specs.List.{entriesMost, noSize, andThen, before, joins, counts, Link, LinkAt, readLink, scanLink, linksAt, blockLinks, scanBlock}
+use Rattle.lists.specs.Link.{sized-past, sized-on, Ends, NoEnds, no-first, no-second, link-is}
 use Rattle.lists.specs.Block.{links-end, links-go, links-stop}
 
 -- The refusal that the ends of a link ask for, or 0.
@@ -51,6 +51,26 @@ module _ (n a b : ℕ) where
       pub bad-none : (a ≡ b → ⊥) → 0 ≡ badEnds n a b
       unfolding badEnds
       bad-none p = simp tests
+
+-- The answers of a block scanned for an n that is given.
+module _ (n e : ℕ) (s : List ℕ) where
+  pub scan-past : noSize n ≡ true → scanEnd 1 0 0 ≡ scanBlock n e s
+  unfolding scanBlock scanEnd
+  scan-past h = simp tests (sized-past n _ h)
+
+  pub scan-whole : noSize n ≡ false → scanFrom n e s 0 ≡ scanBlock n e s
+  unfolding scanBlock scanFrom blockLinks
+  scan-whole h = sym (sized-on n _ h)
+
+-- The answers of a link read for an n that is given.
+module _ (n e : ℕ) (s : List ℕ) (at : ℕ) where
+  pub alone-past : noSize n ≡ true → refuses 1 0 ≡ scanLink n e s at
+  unfolding scanLink
+  alone-past h = sized-past n _ h
+
+  pub alone-read : noSize n ≡ false → readLink n e s at ≡ scanLink n e s at
+  unfolding scanLink
+  alone-read h = sym (sized-on n _ h)
 
 -- The answers of a scan's end.
 module _ (bad at count : ℕ) where

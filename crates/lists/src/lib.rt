@@ -5,7 +5,7 @@ ghost use lib.ListN.{length};
 ghost use Rattle.base.specs.Answer.{refuses};
 ghost use Rattle.numbers.specs.Number.{writtenNumber, put};
 ghost use Rattle.numbers.specs.Told.{toldEnd, wrote};
-ghost use Rattle.lists.specs.List.{noSize, readEnds, readLink, scanBlock, readList, cutBlock, writeList};
+ghost use Rattle.lists.specs.List.{noSize, readEnds, scanLink, scanBlock, readList, cutBlock, writeList};
 ghost use Rattle.lists.specs.Scan.{badEnds, badLink, scanFrom, scanEnd};
 ghost use Rattle.lists.specs.Write.{answerOr, widthOf, listSize, Fitting, writtenWords, Stored, Room};
 ghost use Rattle.lists.specs.Told.{toldLink, toldCount, toldList};
@@ -86,25 +86,31 @@ fn bad_link(n: u32, entries: u32, a: u32, b: u32) -> u32
     0
 }
 
+fn no_link(number: u32, place: usize) -> Link
+    ensures { λ r. ⌜ toldLink r ≡ refuses number place ⌝ }
+{
+    Link::Refused(Refusal {
+        number: number,
+        place: place,
+    })
+}
+
 // The link that begins at byte `at` of a block, where `entries` came before it in the pass.
 pub fn link_at(n: u32, entries: u32, block: &[u8], at: usize) -> Link
-    ensures { λ r. ⌜ toldLink r ≡ readLink n entries (now (block .entry)) at ⌝ }
+    ensures { λ r. ⌜ toldLink r ≡ scanLink n entries (now (block .entry)) at ⌝ }
 {
+    if bad_size(n) {
+        return no_link(1, 0);
+    }
     match ends_at(block, at) {
         Link::Ends(a, b, next) => {
             let bad = bad_link(n, entries, a, b);
             if bad != 0 {
-                return Link::Refused(Refusal {
-                    number: bad,
-                    place: at,
-                });
+                return no_link(bad, at);
             }
             Link::Ends(a, b, next)
         }
-        Link::Refused(r) => Link::Refused(Refusal {
-            number: r.number,
-            place: at,
-        }),
+        Link::Refused(r) => no_link(r.number, at),
     }
 }
 
@@ -161,6 +167,9 @@ fn scan_from(n: u32, entries: u32, block: &[u8], from: usize) -> Scanned
 pub fn scan(n: u32, entries: u32, block: &[u8]) -> Scanned
     ensures { λ r. ⌜ toldCount r ≡ scanBlock n entries (now (block .entry)) ⌝ }
 {
+    if bad_size(n) {
+        return answered(1, 0, 0);
+    }
     scan_from(n, entries, block, 0)
 }
 

@@ -13,8 +13,8 @@ use lib.ListN.{length, getD, set, take, drop, replicate, length-set, length-repl
 use lib.Seq.{getD-drop, getD-set-same, getD-set-other, take-set-le, drop-set-lt, length-take-le, getD-append-add}
 use Rattle.base.specs.Truth.{T-ext, T-true, T-false}
 use Rattle.base.specs.Answer.{gives}
-use Rattle.lists.specs.List.{readLink}
-use Rattle.lists.specs.Link.{Accepted, link-accepted}
+use Rattle.lists.specs.List.{scanLink}
+use Rattle.lists.specs.Link.{Accepted, link-told}
 use Rattle.rules.specs.Links.{Link, linked}
 use Rattle.rules.specs.Laws.Links.{between-here, linked-nil, linked-turn, append-left, snoc-cases, snoc-last}
 use Rattle.state.specs.Layout.{words, linkIn, wordOf}
@@ -296,9 +296,9 @@ module _ {n : ℕ} (f : List ℕ) {f′ : List ℕ} (long : words * n ≤ length
       record { some = s; few-fragments = few; long = l; noted = noted-none n [] f′ l (λ i p q. rw e (cleared-at (7 * n) (16 * n) f (omega arith) long i p q)) }
 
 -- A link of a block that was read.
-module _ (n told : ℕ) (block : List ℕ) (at a b next : ℕ) (e : readLink n told block at ≡ gives (record { link = (a, b); next = next })) where
+module _ (n told : ℕ) (block : List ℕ) (at a b next : ℕ) (e : scanLink n told block at ≡ gives (record { link = (a, b); next = next })) where
   pub told-link : Accepted n told block at (record { link = (a, b); next = next })
-  told-link = link-accepted n told block at _ e
+  told-link = link-told n told block at _ e
 
   pub told-ends : Ends n a b
   told-ends = record { first = told-link .first; second = told-link .second; differ = told-link .differ }

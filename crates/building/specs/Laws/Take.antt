@@ -4,7 +4,6 @@ use Prim.Native.Nat.{ℕ, zero, suc, _+_, _-_, _*_, _/_, _%_, _≤_}
 use mathlib.Core.Path.{_≡_, refl, sym, ap, _∙_}
 use mathlib.Core.Bool.{Bool, true, false, _&&_, not}
 use mathlib.Core.List.{List, [], _∷_, map}
-use mathlib.Core.Logic.{inl, inr}
 use native.Mathlib.Omega.{arith}
 use native.Mathlib.Decide.{ℕ-discrete}
 use lib.Dec.{T, ltb, eqb, ltb→lt}
@@ -13,8 +12,8 @@ use lib.Seq.{drop-drop}
 use Rattle.base.specs.Pick.{pick-true, tests}
 use Rattle.base.specs.Truth.{and-l, and-r, T-dec, T-true, T-false, true-T}
 use Rattle.base.specs.Answer.{gives, refuses}
-use Rattle.lists.specs.List.{andThen, blockLinks, scanBlock}
-use Rattle.lists.specs.Link.{never-both, andThen-gives, answered}
+use Rattle.lists.specs.List.{blockLinks, scanBlock}
+use Rattle.lists.specs.Block.{scan-gives, scan-refuses}
 use Rattle.rules.specs.Links.{Link}
 use Rattle.rules.specs.Tables.{Tables, placed}
 use Rattle.rules.specs.Building.{buildLinks}
@@ -75,28 +74,10 @@ ends-rising n t (x ∷ h) zero b e i l = absurd (omega arith)
 ends-rising n t (x ∷ h) (suc m) b e zero l = ltb→lt _ _ (and-l (ltb (x / radix) (x % radix)) _ (and-l (wordFits n t x) _ e))
 ends-rising n t (x ∷ h) (suc m) b e (suc i) l = ends-rising n t h m (omega arith) (and-r (wordFits n t x) _ e) i (omega arith)
 
--- The links of a scanned block, or its refusal.
-module _ (n entries : ℕ) (block : List ℕ) where
-  pub scanned : (count : ℕ) → gives count ≡ scanBlock n entries block → (links : List Link) × (blockLinks n entries block ≡ gives links) × (count ≡ length links)
-  unfolding scanBlock
-  scanned count e =
-      let (links, p, q) = andThen-gives (blockLinks n entries block) _ count (sym e) in
-      (links, p, cc)
-
-  pub block-refused : (number place : ℕ) → refuses number place ≡ scanBlock n entries block → blockLinks n entries block ≡ refuses number place
-  unfolding scanBlock andThen
-  block-refused number place e = elim (answered (blockLinks n entries block)) [
-    | inl (links, p) ↦ let r = rw p at e in absurd (never-both refl (sym r))
-    | inr (m, q, p) ↦
-        let r = rw p at e in
-        let a : m ≡ number = cc in
-        let b : q ≡ place = cc in
-        p ∙ (λ i. refuses (a i) (b i))
-  ]
-
-  pub block-rest : (count : ℕ) → gives count ≡ scanBlock n entries block → Rest n entries block 0
-  unfolding blockLinks
-  block-rest count e = let (links, p, q) = scanned count e in record { links = links; are = p }
+-- A block that was scanned tells links.
+pub block-rest : (n entries : ℕ) (block : List ℕ) (count : ℕ) → gives count ≡ scanBlock n entries block → Rest n entries block 0
+unfolding blockLinks
+block-rest n entries block count e = let (links, p, q) = scan-gives n entries block count (sym e) in record { links = links; are = p }
 
 -- Words from c on that are 0 are 0 from d on.
 zeros-drop : (m : ℕ) (l : List ℕ) → T (allZero l) → T (allZero (drop m l))
@@ -127,14 +108,14 @@ module _ (s : State) (f h block g : List ℕ) (same : g ≡ f) (r : ℕ) (er : r
     unfolding takeIn headed
     take-on = rw (← er, none) (simp tests)
 
-    pub take-refused : (number place : ℕ) → refuses number place ≡ scanBlock (s .n) (s .entries) block → takenTold s (Refused (record { number = number; place = place })) g h ≡ takeIn isBuilding s f h block
-    unfolding taken
-    take-refused number place e = rw same (rw (block-refused (s .n) (s .entries) block number place e) at take-on)
-
     pub take-passed : Passed s f h
     take-passed = passed s f h (sym er ∙ none)
 
     open Passed take-passed using (bounds, stage, found)
+
+    pub take-refused : (number place : ℕ) → refuses number place ≡ scanBlock (s .n) (s .entries) block → takenTold s (Refused (record { number = number; place = place })) g h ≡ takeIn isBuilding s f h block
+    unfolding taken
+    take-refused number place e = rw same (rw (scan-refuses (s .n) (s .entries) block (λ z. omega (arith, bounds)) (bounds .fragments) number place (sym e)) at take-on)
 
     in-building : isBuilding (s .stage) ≡ true
     in-building = ap isBuilding stage
@@ -202,5 +183,5 @@ module _ (s : State) (f h block g : List ℕ) (same : g ≡ f) (r : ℕ) (er : r
         → Told (s .n) (s .k) (s .held) (s .entries) block g h held f′ h′ → takenTold s (On (after x held)) f′ h′ ≡ takeIn isBuilding s f h block
     unfolding blockLinks
     take-accepted count e x held f′ h′ ex D =
-        let (links, p, q) = scanned (s .n) (s .entries) block count e in
+        let (links, p, q) = scan-gives (s .n) (s .entries) block count (sym e) in
         ap (λ c. takenTold s (On (after c held)) f′ h′) (ex ∙ q) ∙ accepted links held f′ h′ (rw same at (D links p)) ∙ sym (ap (taken s f h) p) ∙ take-on

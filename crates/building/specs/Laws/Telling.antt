@@ -14,9 +14,9 @@ use lib.ListN.{length, getD, set, take, drop, replicate, length-set, length-appe
 use lib.Seq.{getD-set-same, getD-set-other, set-getD, drop-set-lt, take-take, drop-drop, take-at}
 use Rattle.base.specs.Pick.{pick, pick-true, pick-false, tests}
 use Rattle.base.specs.Answer.{Answer, gives, refuses}
-use Rattle.lists.specs.List.{readLink, linksAt}
-use Rattle.lists.specs.Link.{never-both, Accepted, link-accepted}
-use Rattle.lists.specs.Block.{links-end, links-stop, walked}
+use Rattle.lists.specs.List.{scanLink, linksAt}
+use Rattle.lists.specs.Link.{Accepted, link-read, link-told}
+use Rattle.lists.specs.Block.{links-end, walked, link-there as next-given}
 use Rattle.base.specs.Truth.{T-true, T-false}
 use Rattle.rules.specs.Links.{Link, between, linked}
 use Rattle.rules.specs.Tables.{Tables, rank, noteOf, placed, putMark, putHeld}
@@ -487,8 +487,8 @@ midway-starts {n} {k} {first} {entries} {block} {f} {h} S R = record {
 }
 
 module _ {n k first entries : ℕ} {block f₀ h₀ : List ℕ} {count : ℕ} {f h : List ℕ} {told at : ℕ} (M : Midway n k first entries block f₀ h₀ count f h told at) where
-  pub midway-bad : (number place : ℕ) → at < length block → readLink n told block at ≡ refuses number place → ⊥
-  midway-bad number place l e = never-both (M .rest .are) (links-stop n block told at number place l e)
+  pub midway-bad : (number place : ℕ) → at < length block → scanLink n told block at ≡ refuses number place → ⊥
+  midway-bad number place l e = next-given n block (M .leaves .telling .few-fragments) told at (M .rest .links) (M .rest .are) l number place e
 
   pub midway-end : length block ≤ at → Tells n k first entries block f₀ h₀ count f h
   unfolding buildLinks
@@ -496,9 +496,9 @@ module _ {n k first entries : ℕ} {block f₀ h₀ : List ℕ} {count : ℕ} {f
       let none : M .rest .links ≡ [] = one-answer (M .rest .are) (links-end n block told at l) in
       leaves-as (M .leaves) (sym (ap (buildLinks n k (heldTables n count f h)) none) ∙ M .left links e)
 
-  module _ (a b next : ℕ) (e : readLink n told block at ≡ gives (record { link = (a, b); next = next })) where
+  module _ (a b next : ℕ) (e : scanLink n told block at ≡ gives (record { link = (a, b); next = next })) where
     pub midway-link : Accepted n told block at (record { link = (a, b); next = next })
-    midway-link = link-accepted n told block at _ e
+    midway-link = link-told n told block at _ e
 
     pub midway-ends : Ends n a b
     midway-ends = record { first = midway-link .first; second = midway-link .second; differ = midway-link .differ }
@@ -508,7 +508,8 @@ module _ {n k first entries : ℕ} {block f₀ h₀ : List ℕ} {count : ℕ} {f
     midway-next {count′} {f′} {h′} L = elim (walked n block told at (M .rest .links) (M .rest .are)) [
       | inl (z, q) ↦ absurd (omega (arith, midway-link))
       | inr (l, ms, q, r, z) ↦
-          let same : l ≡ record { link = (a, b); next = next } = cc in
+          let read = link-read n told block at _ e in
+          let same : l ≡ record { link = (a, b); next = next } = cc (q, read) in
           let R : linksAt n (told + 1) block next ≡ gives ms = rw same at r in
           let here : M .rest .links ≡ (a, b) ∷ ms = z ∙ ap (λ x. x .link ∷ ms) same in
           record {

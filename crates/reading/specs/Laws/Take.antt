@@ -4,7 +4,6 @@ use Prim.Native.Nat.{ℕ, _+_, _≤_}
 use mathlib.Core.Path.{_≡_, refl, sym, ap, _∙_}
 use mathlib.Core.Bool.{Bool, false}
 use mathlib.Core.List.{List, map}
-use mathlib.Core.Logic.{inl, inr}
 use native.Mathlib.Omega.{arith}
 use lib.ListN.{length, take}
 use Rattle.base.specs.Pick.{pick-false}
@@ -13,8 +12,8 @@ use Rattle.base.specs.Answer.{Answer, gives, refuses}
 use Rattle.rules.specs.Links.{Link}
 use Rattle.rules.specs.Tables.{Tables}
 use Rattle.rules.specs.Reading.{readLinks}
-use Rattle.lists.specs.List.{andThen, blockLinks, scanBlock}
-use Rattle.lists.specs.Link.{andThen-gives, answered}
+use Rattle.lists.specs.List.{blockLinks, scanBlock}
+use Rattle.lists.specs.Block.{scan-gives, scan-refuses}
 use Rattle.lists.specs.Laws.{accepted-count}
 use Rattle.state.specs.Layout.{linkIn, tablesIn, fragOf, heldOf}
 use Rattle.state.specs.Test.{isBuilding, isReading}
@@ -35,21 +34,12 @@ pub record Scanned (n entries : ℕ) (block : List ℕ) (count : ℕ) : Type 0 w
   pub counted : count ≡ length (given .links)
 
 pub scanned : (n entries : ℕ) (block : List ℕ) (count : ℕ) → gives count ≡ scanBlock n entries block → Scanned n entries block count
-unfolding scanBlock
 scanned n entries block count e =
-    let (ls, p, q) = andThen-gives (blockLinks n entries block) _ count (sym e) in
-    let z : length ls ≡ count = cc in
-    record { given = record { links = ls; are = p }; counted = sym z }
+    let (ls, p, z) = scan-gives n entries block count (sym e) in
+    record { given = record { links = ls; are = p }; counted = z }
 
 pub scanned-few : {n entries : ℕ} {block : List ℕ} {count : ℕ} → Scanned n entries block count → count ≤ 16777215
 scanned-few {n} {entries} {block} s = omega (arith, s .counted, accepted-count n entries block (s .given .links) (s .given .are))
-
-pub scan-refused : (n entries : ℕ) (block : List ℕ) (number place : ℕ) → refuses number place ≡ scanBlock n entries block → blockLinks n entries block ≡ refuses number place
-unfolding scanBlock andThen
-scan-refused n entries block number place e = elim (answered (blockLinks n entries block)) [
-  | inl (ls, p) ↦ let q : _≡_ {A = Answer ℕ} (refuses number place) (gives (length ls)) = (rw p at e) in let z : _≡_ {A = ℕ} 0 1 = cc in absurd (omega arith)
-  | inr (a, b, p) ↦ let q : _≡_ {A = Answer ℕ} (refuses number place) (refuses a b) = (rw p at e) in let x : number ≡ a = cc in let y : place ≡ b = cc in cc
-]
 
 -- The state after a take, from what reading the links says of the pass.
 abbrev pub after : State → Bool → ℕ → State
@@ -61,10 +51,10 @@ module _ (s : State) (f h block : List ℕ) (r : ℕ) (e : r ≡ headRefusal isR
   take-refused d = headed-refused isReading s f h _ r e d
 
   module _ (z : r ≡ 0) where
-    pub take-bad : (number place : ℕ) → blockLinks (s .n) (s .entries) block ≡ refuses number place
+    pub take-bad : {b : Bool} → Passed b s f h → (number place : ℕ) → refuses number place ≡ scanBlock (s .n) (s .entries) block
         → takenTold s (Untaken (record { number = number; place = place })) f h ≡ takeIn isReading s f h block
     unfolding takeIn taken
-    take-bad number place q = sym (ap (taken s f h) q) ∙ headed-passed isReading s f h _ r e z
+    take-bad p number place q = sym (ap (taken s f h) (scan-refuses (s .n) (s .entries) block (λ x. omega (arith, p .bounds)) (p .bounds .fragments) number place (sym q))) ∙ headed-passed isReading s f h _ r e z
 
     module _ {b : Bool} (p : Passed b s f h) (eb : b ≡ isReading (s .stage)) (crossed : Bool) (f′ : List ℕ) (entries count : ℕ) (sc : Scanned (s .n) (s .entries) block count)
         (o : Reads (s .n) (s .crossed) f crossed f′ (linksOf (blockLinks (s .n) (s .entries) block))) (ec : entries ≡ s .entries + count) where

@@ -18,9 +18,9 @@ use Rattle.rules.specs.Laws.Tables.{SameForest, same-par, same-lev, same-placed
 use Rattle.state.specs.Layout.{stored, tablesIn, forestIn}
 use Rattle.state.specs.Laws.Layout.{section-same, section-length, note-word, store-note, store-mark, store-crossed}
 use Rattle.reading.specs.Whole.{Whole}
-use Rattle.lists.specs.List.{linksAt, blockLinks, readLink as linkAt}
-use Rattle.lists.specs.Link.{link-accepted}
-use Rattle.lists.specs.Block.{walked, links-stop}
+use Rattle.lists.specs.List.{fragmentsMost, linksAt, blockLinks, scanLink}
+use Rattle.lists.specs.Link.{link-accepted, link-read, link-told}
+use Rattle.lists.specs.Block.{walked, link-there}
 use Rattle.reading.specs.Tell.{passing, crossedIn, Kept, Leaves, Reads, Given, linksOf}
 use Rattle.reading.specs.Laws.Climb.{word-lev}
 
@@ -135,13 +135,14 @@ telling-starts n entries block c f g = record {
 }
 
 module _ {n entries : ℕ} {block : List ℕ} {c₀ : Bool} {f₀ : List ℕ} {told at : ℕ} {c : Bool} {f : List ℕ} (t : Telling n entries block c₀ f₀ told at c f) where
-  pub telling-on : (a b next : ℕ) → linkAt n told block at ≡ gives (record { link = (a, b); next = next }) → (u v : ℕ) → u ≡ a → v ≡ b
+  pub telling-on : (a b next : ℕ) → scanLink n told block at ≡ gives (record { link = (a, b); next = next }) → (u v : ℕ) → u ≡ a → v ≡ b
       → (c′ : Bool) (f′ : List ℕ) → Reads n c f c′ f′ ((u, v) ∷ []) → Telling n entries block c₀ f₀ (told + 1) next c′ f′
   unfolding readLinks
   telling-on a b next e u v eu ev c′ f′ r = elim (walked n block told at (t .links) (t .are)) [
-    | inl (h, z) ↦ absurd (let x = link-accepted n told block at _ e in omega arith)
+    | inl (h, z) ↦ absurd (let x = link-told n told block at _ e in omega arith)
     | inr (l, ms, p, q, z) ↦
-        let y : l ≡ record { link = (a, b); next = next } = cc in
+        let e′ = link-read n told block at _ e in
+        let y : l ≡ record { link = (a, b); next = next } = cc (p, e′) in
         let m : (u, v) ∷ ms ≡ t .links = rw (eu, ev) (sym (rw y at z)) in
         record {
           kept = kept-trans (t .kept) (r .kept);
@@ -158,5 +159,5 @@ module _ {n entries : ℕ} {block : List ℕ} {c₀ : Bool} {f₀ : List ℕ} {t
     | inr (l, ms, p, q, z) ↦ absurd (let a = link-accepted n told block at l p in omega arith)
   ]
 
-  pub telling-whole : {A : Type 0} → at < length block → (number place : ℕ) → linkAt n told block at ≡ refuses number place → A
-  telling-whole h number place e = let x = links-stop n block told at number place h e in let z : _≡_ {A = ℕ} 0 1 = cc (x, t .are) in absurd (omega arith)
+  pub telling-whole : {A : Type 0} → n ≤ fragmentsMost → at < length block → (number place : ℕ) → scanLink n told block at ≡ refuses number place → A
+  telling-whole few h number place e = absurd (link-there n block few told at (t .links) (t .are) h number place e)

@@ -7,7 +7,7 @@ use borrow.Author.Needs.{needs}
 use Rattle.lists.specs.Told.{toldCount}
 use Rattle.state.specs.Test.{isReading}
 use Rattle.reading.specs.Laws.Pass.{reading-settled}
-use Rattle.reading.specs.Laws.Take.{scanned, scanned-few, scan-refused, take-refused, take-bad, take-on}
+use Rattle.reading.specs.Laws.Take.{scanned, scanned-few, take-refused, take-bad, take-on}
 use Rattle.reading.specs.Laws.Asked.{passed-whole}
 use Rattle.reading.specs.Laws.Head.{head-at, head-passed}
 use Rattle.reading.proofs.taking.take.Statement.{statement}
@@ -50,7 +50,7 @@ returns-2 c =
     (ap (λ k. s .entries + k) (c .before .wide .ensures .says))
 
 returns-3 : tie.Need-returns-3
-returns-3 c = take-bad (c .before .before .before .before .before .before .before .before .before .before .before .before .before .args .s) _ _ _ _ (c .before .before .before .before .before .before .head .ensures ∙ head-at isReading _ _ _ _ (c .before .before .before .before .before .before .before .before .before .is-reading .ensures)) (omega arith) _ _ (scan-refused _ _ _ _ _ (sym (ap toldCount (c .before .bad .given .1)) ∙ c .before .before .before .scan .ensures))
+returns-3 c = let p = head-passed _ _ _ _ (sym (c .before .before .before .before .before .before .head .ensures) ∙ omega arith) in take-bad (c .before .before .before .before .before .before .before .before .before .before .before .before .before .args .s) _ _ _ _ (c .before .before .before .before .before .before .head .ensures ∙ head-at isReading _ _ _ _ (c .before .before .before .before .before .before .before .before .before .is-reading .ensures)) (omega arith) p _ _ (sym (ap toldCount (c .before .bad .given .1)) ∙ c .before .before .before .scan .ensures)
 
 pub take-spec : {M : Type 1} → statement M
 take-spec =
