@@ -1,4 +1,5 @@
--- The known instances P1 to P10 of document 01, proved of the rules as one table, by computation.
+-- The known instances P1 to P10 of document 01, and Q1 to Q6, which pin what no other instance pins of B2 to B5; proved of the rules as one table, by
+-- computation.
 -- Assumes nothing.
 use Prim.Native.Nat.{ℕ, zero, suc}
 use mathlib.Core.Path.{_≡_, refl}
@@ -15,9 +16,11 @@ use Rattle.rules.specs.Building.{alone, merged, piecesFrom, pieces, memb
 use Rattle.rules.specs.Adopting.{rootedIn, adoptable, adopted}
 use Rattle.rules.specs.Reading.{above, hear, readLink, readLinks, seen, accepted, lowest, reach, childOf, soleBelow, sole, cut, rootOf, piece}
 
--- Build with room k from a list told in every pass, and read it; or adopt parents and read a list.
+-- Build with room k from a list told in every pass, and read it; build from the lists of the passes, one by one, and read another; or adopt
+-- parents and read a list.
 pub data Instance : Type 0 where
   build : (n k : ℕ) (links : List Link) → Instance
+  differ : (n k : ℕ) (lists : List (List Link)) (links : List Link) → Instance
   adopt : (parents : List ℕ) (links : List Link) → Instance
 
 -- The count of passes, the parents, the sole links and the cut fragments; or the refusal's number.
@@ -43,6 +46,9 @@ run n k g (suc bound) p t =
 
 unfoldable pub resultOf : Instance → Result
 resultOf (build n k g) = run n k g n 0 (fresh n)
+resultOf (differ n k gs g) =
+    let t = passes n k (fresh n) gs in
+    pick (done n t) (reported n (length gs) (readLinks (cleared n t) g)) (refused 6)
 resultOf (adopt ps g) =
     let n = length ps in
     pick (adoptable n ps) (reported n 0 (readLinks (adopted n ps) g)) (refused 10)
@@ -79,6 +85,18 @@ instances =
     ∷ row (adopt (0 ∷ 0 ∷ 0 ∷ []) triangle) (refused 9)
     ∷ row (adopt (0 ∷ 0 ∷ []) []) (refused 9)
     ∷ row (adopt (1 ∷ 0 ∷ []) []) (refused 10)
+    -- Q1, B4: the top is the smallest member that noted the fragment, 2 and not 3
+    ∷ row (build 4 1 ((0, 2) ∷ (0, 3) ∷ (0, 1) ∷ (3, 2) ∷ [])) (reports 2 (0 ∷ 0 ∷ 0 ∷ 2 ∷ []) ((0, 1) ∷ []) (0 ∷ []))
+    -- Q2, B5: the deepest member is the first reached among equals, 1 and not 2
+    ∷ row (build 3 1 ((1, 0) ∷ (0, 2) ∷ (2, 1) ∷ [])) (reports 2 (0 ∷ 0 ∷ 1 ∷ []) [] [])
+    -- Q3, B3: a piece of five holds nine links, all there are
+    ∷ row (build 5 2 ((0, 3) ∷ (0, 4) ∷ (4, 2) ∷ (4, 3) ∷ (1, 4) ∷ (1, 2) ∷ (0, 2) ∷ (1, 3) ∷ (1, 0) ∷ [])) (reports 1 (0 ∷ 0 ∷ 1 ∷ 4 ∷ 2 ∷ []) [] [])
+    -- Q4, B2 and B4: of two noted fragments of equal level the smaller number, 0 and not 2
+    ∷ row (differ 4 1 (((1, 0) ∷ (0, 3) ∷ (3, 1) ∷ (0, 3) ∷ []) ∷ ((3, 2) ∷ (3, 0) ∷ []) ∷ []) ((0, 1) ∷ (0, 3) ∷ [])) (reports 2 (0 ∷ 0 ∷ 2 ∷ 0 ∷ []) ((0, 1) ∷ (0, 3) ∷ []) (0 ∷ []))
+    -- Q5, B2: of two noted fragments the deeper, 1, though 0 is told last
+    ∷ row (build 3 1 ((0, 1) ∷ (0, 2) ∷ (1, 2) ∷ (0, 2) ∷ [])) (reports 2 (0 ∷ 0 ∷ 1 ∷ []) [] [])
+    -- Q6, B3: a link held already fills no room
+    ∷ row (build 3 1 ((0, 1) ∷ (0, 1) ∷ (0, 2) ∷ [])) (reports 1 (0 ∷ 0 ∷ 0 ∷ []) ((0, 1) ∷ (0, 2) ∷ []) (0 ∷ []))
     ∷ []
 
 pub known : map (λ r. resultOf (r .instance)) instances ≡ map (λ r. r .result) instances
