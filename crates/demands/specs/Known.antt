@@ -1,4 +1,4 @@
--- The known instances P1 to P10 of document 01, run as calls.
+-- The known instances, P1 to P10 of document 01 and Q1 to Q6, run as calls.
 -- Assumes nothing.
 use Prim.Native.Nat.{ℕ, zero, suc, _*_}
 use mathlib.Core.Path.{_≡_, refl}
@@ -17,7 +17,7 @@ use Rattle.rules.specs.Tables.{parentOf, rank, noteOf, markOf, placed, par, lev
 use Rattle.rules.specs.Building.{alone, merged, piecesFrom, pieces, member, sizeOf, heldIn, better, noteLink, hold, fill, holdLink, buildLink, buildLinks, noted, topOf, hang, nextOf, reachNext, goBack, walkStep, walkSteps, walked, placePath, lost, placeWalk, placePiece, placeFrom, placePieces, closeBuilding, done, pass, passes}
 use Rattle.rules.specs.Adopting.{rootedIn, adoptable, adopted}
 use Rattle.rules.specs.Reading.{above, hear, readLink, readLinks, seen, accepted, lowest, reach, childOf, soleBelow, sole, cut, rootOf, piece}
-use Rattle.rules.specs.Known.{Instance, build, adopt, Result, reports, refused, row, square, triangle, instances}
+use Rattle.rules.specs.Known.{Instance, build, differ, adopt, Result, reports, refused, row, square, triangle, instances}
 use Rattle.state.specs.Layout.{words, section, linkIn, wordOf, tablesIn, fragOf, heldOf}
 use Rattle.state.specs.Test.{asked, allZero, stageFits, standsAt, forestFits, endsFit, noneTwice, quotaFits, heldFits, noteFits, clearAt, lowFits, notesFit, restZero, countsFit, readFits, markFits, restAgrees, fits, sound}
 use Rattle.state.specs.Call.{Begun, boundsRefusal, headRefusal, headed, moved, leaves}
@@ -56,9 +56,9 @@ reportedBy n m (refuses number place) = refused number
 unfoldable pub passBy : List ℕ → Moment → Moment
 passBy block m = step (step m (take block)) close
 
-unfoldable pub passesBy : ℕ → List ℕ → Moment → Moment
-passesBy zero block m = m
-passesBy (suc p) block m = passesBy p block (passBy block m)
+unfoldable pub passesBy : List (List ℕ) → Moment → Moment
+passesBy [] m = m
+passesBy (block ∷ blocks) m = passesBy blocks (passBy block m)
 
 -- The reading pass, and the questions.
 unfoldable pub readBy : ℕ → List ℕ → Moment → Result
@@ -78,12 +78,15 @@ lent m = replicate m 5
 unfoldable pub calledResult : Instance → Result
 calledResult (build n k g) =
     let b = begunBy (start n k) (lent (words * n)) (lent (k * n)) in
-    begunThen b (b .answer) (λ m. readBy n (writtenLinks g) (passesBy n (writtenLinks g) m))
+    begunThen b (b .answer) (λ m. readBy n (writtenLinks g) (passesBy (replicate n (writtenLinks g)) m))
+calledResult (differ n k gs g) =
+    let b = begunBy (start n k) (lent (words * n)) (lent (k * n)) in
+    begunThen b (b .answer) (λ m. readBy n (writtenLinks g) (passesBy (map writtenLinks gs) m))
 calledResult (adopt ps g) =
     let b = begunBy (adopts (length ps) 1 ps) (lent (words * length ps)) (lent (length ps)) in
     begunThen b (b .answer) (readBy (length ps) (writtenLinks g))
 
--- P1 to P10 as one table.
+-- The rules' whole table, as one.
 pub known-calls : map (λ r. calledResult (r .instance)) instances ≡ map (λ r. r .result) instances
 unfolding pick between linked tally up depth count some every first least table listed parentOf rank noteOf markOf placed par lev fresh place putNote putMark putHeld putCrossed cleared alone merged piecesFrom pieces member sizeOf heldIn better noteLink hold fill holdLink buildLink buildLinks noted topOf hang nextOf reachNext goBack walkStep walkSteps walked placePath lost placeWalk placePiece placeFrom placePieces closeBuilding done pass passes rootedIn adoptable adopted above hear readLink readLinks seen accepted lowest reach childOf soleBelow sole cut rootOf piece row square triangle instances onto readGroups atMost readUpTo readNumber groupsOf writtenNumber andThen placedAt joins counts readEnds readLinkAt before linksIn linksAt blockLinks writtenLinks section linkIn wordOf tablesIn fragOf heldOf asked allZero stageFits standsAt forestFits endsFit noneTwice quotaFits heldFits noteFits clearAt lowFits notesFit restZero countsFit readFits markFits restAgrees fits sound boundsRefusal headRefusal headed moved leaves startCall adoptRefusal adoptCall tell taken takeIn takeCall openCall endBuilding endReading closeIn closeCall askOne askTwo parentCall cutCall soleCall afterTake afterClose afterOpen step begunBy opening parentsTo solesTo reportedBy passBy passesBy readBy begunThen calledResult
 known-calls = refl
