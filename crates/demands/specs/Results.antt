@@ -21,7 +21,7 @@ use Rattle.rules.specs.Laws.Search.{every-at, every-intro}
 use Rattle.rules.specs.Laws.Tables.{SameForest, same-placed, same-par, placed-loose, fresh-loose}
 use Rattle.rules.specs.Laws.Partial.{Tells, Each}
 use Rattle.rules.specs.Laws.Passes.{told-forest, result}
-use Rattle.rules.specs.Laws.Ceiling.{ceiling, ceiling-more}
+use Rattle.rules.specs.Laws.Ceiling.{within-ceiling, within-lower}
 use Rattle.rules.specs.Laws.Reading.{read-forest}
 use Rattle.rules.specs.Laws.Reports.{SameReports, reading-exact, sole-exact, cut-exact, piece-exact, equal-reports}
 use Rattle.state.specs.Test.{isBuilding, isReading, isRead}
@@ -135,11 +135,11 @@ module _ {n k : ℕ} {m : Moment} (H : Holds (start n k) m) where
   module _ (b : T (isBuilding (m .state .stage))) where
     pub below-ceiling : suc (length (m .told)) ≤ (n + k - 1) / k
     unfolding forestOf
-    below-ceiling = omega (arith, length-append (m .told) ([] ∷ []), ceiling n k (some-room H) (m .told) (H .amongs) (unfinished-at H b) [])
+    below-ceiling = omega (arith, length-append (m .told) ([] ∷ []), within-ceiling n k (some-room H) (m .told) (H .amongs) (unfinished-at H b) [])
 
     pub below-more : suc (length (m .told)) ≤ (n + k) / (k + 1)
     unfolding forestOf
-    below-more = omega (arith, length-append (m .told) ([] ∷ []), ceiling-more n k (some-room H) (m .told) (H .amongs) (unfinished-at H b) [])
+    below-more = omega (arith, length-append (m .told) ([] ∷ []), within-lower n k (some-room H) (m .told) (H .amongs) (unfinished-at H b) [])
 
 reports-between : (n p : ℕ) → n ≡ p → (s t : Tables) (g h : List Link) → Standing n s → Standing p t → Among n (linked g) → SameSet g h
     → T (accepted n (readLinks (cleared n s) g)) → T (accepted p (readLinks (cleared p t) h)) → SameReports n (readLinks (cleared n s) g) (readLinks (cleared p t) h)

@@ -1,6 +1,6 @@
 -- The building rules B1 to B6, in document 01's order. Definitions only.
 -- Assumes nothing.
-use Prim.Native.Nat.{ℕ, zero, suc, pred, _-_, _*_, min, max}
+use Prim.Native.Nat.{ℕ, zero, suc, pred, _+_, _-_, _*_, _/_, min, max}
 use mathlib.Core.Bool.{Bool, _&&_, not}
 use mathlib.Core.List.{List, [], _∷_, _++_, map}
 use lib.ListN.{getD}
@@ -183,3 +183,11 @@ pass n k t g = closeBuilding n (buildLinks n k t g)
 unfoldable pub passes : ℕ → ℕ → Tables → List (List Link) → Tables
 passes n k t [] = t
 passes n k t (g ∷ gs) = passes n k (pass n k t g) gs
+
+-- 'The ceiling is n/k rounded up.' Of how many passes there are with room k.
+abbrev pub ceiling : ℕ → ℕ → ℕ
+ceiling n k = (n + k - 1) / k
+
+-- A lower one that these rules keep as well: n/(k + 1), rounded up.
+abbrev pub lowerCeiling : ℕ → ℕ → ℕ
+lowerCeiling n k = (n + k) / (k + 1)

@@ -1,7 +1,7 @@
 -- What follows from the rules of document 01: the theorems that demands 2 and 3 rest on, to be read alone. Behind each stands the instance of
 -- P1 to P10 that meets its premises.
 -- Assumes nothing.
-use Prim.Native.Nat.{ℕ, suc, _+_, _-_, _*_, _/_, _≤_, _<_}
+use Prim.Native.Nat.{ℕ, suc, _+_, _*_, _≤_, _<_}
 use mathlib.Core.Path.{_≡_}
 use mathlib.Core.Bool.{not, _&&_}
 use mathlib.Core.List.{List, [], _∷_, _++_}
@@ -13,7 +13,7 @@ use Rattle.rules.specs.Removal.{Sole, Cut, Piece}
 use Rattle.rules.specs.Forest.{DepthFirst}
 use Rattle.rules.specs.Search.{count, least}
 use Rattle.rules.specs.Tables.{Tables, markOf, placed, par, lev, fresh, cleared}
-use Rattle.rules.specs.Building.{pieces, member, walked, buildLinks, done, pass, passes}
+use Rattle.rules.specs.Building.{pieces, member, walked, buildLinks, done, pass, passes, ceiling, lowerCeiling}
 use Rattle.rules.specs.Reading.{readLinks, accepted, lowest, sole, cut, piece}
 use Rattle.rules.specs.Laws.Facts.{Standing, Rested, Loose, Holding, Underway, Ready, Walked}
 use Rattle.rules.specs.Laws.Partial.{Partial, Tells, Each}
@@ -23,7 +23,7 @@ use Rattle.rules.specs.Laws.Quota.{held-most}
 use Rattle.rules.specs.Laws.Pieces.{Inside, pieces-joined, label-least}
 use Rattle.rules.specs.Laws.Reading.{note-exact}
 use Rattle.rules.specs.Laws.Passes.{fresh-partial, pass-keeps, pass-grows, pass-finishes, result}
-use Rattle.rules.specs.Laws.Ceiling.{unfinished-places, ceiling, ceiling-more}
+use Rattle.rules.specs.Laws.Ceiling.{unfinished-places, within-ceiling, within-lower}
 use Rattle.rules.specs.Laws.Reports.{SameReports, reading-exact, sole-exact, cut-exact, piece-exact, equal-reports}
 
 -- 1. Every pass keeps the invariant: what stands is part of a depth-first forest of the set, and each unplaced part hangs on one way to the root
@@ -56,9 +56,9 @@ finished-forest n k E gs pos among = result pos among gs
 pub unfinished-pass-places : (n k : ℕ) (t : Tables) (g : List Link) → 1 ≤ k → Standing n t → Rested n t → Among n (linked g) → (T (done n (pass n k t g)) → ⊥) → count (placed t) n + suc k ≤ count (placed (pass n k t g)) n
 unfinished-pass-places n k t g pos S R among = unfinished-places pos S R g among
 
--- hence at most n/k passes, rounded up, and even n/(k + 1): passes gs that left something unplaced, and one more. (P1: Laws.Met.met-ceiling, met-most.)
-pub passes-within : (n k : ℕ) (gs : List (List Link)) (g : List Link) → 1 ≤ k → Each (λ h. Among n (linked h)) gs → (T (done n (passes n k (fresh n) gs)) → ⊥) → (length (gs ++ (g ∷ [])) ≤ (n + k - 1) / k) × (length (gs ++ (g ∷ [])) ≤ (n + k) / (k + 1))
-passes-within n k gs g pos among left = (ceiling n k pos gs among left g, ceiling-more n k pos gs among left g)
+-- hence no more passes than the ceiling, nor than the lower one: passes gs that left something unplaced, and one more. (P1: Laws.Met.met-ceiling, met-most.)
+pub passes-within : (n k : ℕ) (gs : List (List Link)) (g : List Link) → 1 ≤ k → Each (λ h. Among n (linked h)) gs → (T (done n (passes n k (fresh n) gs)) → ⊥) → (length (gs ++ (g ∷ [])) ≤ ceiling n k) × (length (gs ++ (g ∷ [])) ≤ lowerCeiling n k)
+passes-within n k gs g pos among left = (within-ceiling n k pos gs among left g, within-lower n k pos gs among left g)
 
 -- 5. Reading: the reading rules accept exactly the lists of which the table is a depth-first forest, for every table of parents, adopted ones too.
 -- (P1's parents: Laws.MetReading; P8 and P9 are refused.)

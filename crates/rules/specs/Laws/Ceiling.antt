@@ -1,6 +1,6 @@
 -- The ceiling: an unfinished pass places more than k fragments, whatever it was told; so the passes of a building are few.
 -- Assumes nothing.
-use Prim.Native.Nat.{ℕ, zero, suc, _+_, _-_, _*_, _/_, _≤_, _<_}
+use Prim.Native.Nat.{ℕ, zero, suc, _+_, _*_, _≤_, _<_}
 use mathlib.Core.Path.{_≡_, sym, _∙_}
 use mathlib.Core.Bool.{Bool}
 use mathlib.Core.List.{List, [], _∷_, _++_}
@@ -13,7 +13,7 @@ use Rattle.base.specs.Truth.{and-intro, T-dec}
 use Rattle.rules.specs.Links.{Link, linked, Among}
 use Rattle.rules.specs.Search.{count, every}
 use Rattle.rules.specs.Tables.{Tables, placed, fresh}
-use Rattle.rules.specs.Building.{done, pass, passes}
+use Rattle.rules.specs.Building.{done, pass, passes, ceiling, lowerCeiling}
 use Rattle.rules.specs.Laws.Facts.{Standing, Rested}
 use Rattle.rules.specs.Laws.Search.{count-le, count-yes, count-no, every-at, every-intro}
 use Rattle.rules.specs.Laws.Tables.{same-placed, same-rank, fresh-standing, fresh-rested}
@@ -32,11 +32,11 @@ count-short p (suc n) d = elim (T-dec (p n)) [
   | no t ↦ omega (arith, count-no p n t, count-le p n)
 ]
 
--- What is left after p rounds of more than k bounds the rounds with one more: n/k and n/(k + 1), both rounded up.
-rounds-most : (p n k : ℕ) → 1 ≤ k → p * suc k < n → suc p ≤ (n + k - 1) / k
+-- What is left after p rounds of more than k bounds the rounds with one more.
+rounds-most : (p n k : ℕ) → 1 ≤ k → p * suc k < n → suc p ≤ ceiling n k
 rounds-most p n k pos h = le-div-iff-mul-le pos .1 (omega (arith, suc-mul p k, mul-suc p k))
 
-rounds-more : (p n k : ℕ) → p * suc k < n → suc p ≤ (n + k) / (k + 1)
+rounds-more : (p n k : ℕ) → p * suc k < n → suc p ≤ lowerCeiling n k
 rounds-more p n k h = rw add-one (le-div-iff-mul-le {k = suc k} (omega arith) .1 (omega (arith, suc-mul p (suc k))))
 
 one-more : {A : Type 0} (l : List A) (x : A) → length (l ++ (x ∷ [])) ≡ suc (length l)
@@ -90,10 +90,8 @@ module _ (n k : ℕ) (pos : 1 ≤ k) (gs : List (List Link)) (among : Each (λ g
   unfolding done
   passes-most = omega (arith, passes-place pos gs (fresh-standing n) (fresh-rested n) among unfinished, count-short (placed (passes n k (fresh n) gs)) n unfinished)
 
-  -- 'The ceiling is n/k rounded up.'
-  pub ceiling : (g : List Link) → length (gs ++ (g ∷ [])) ≤ (n + k - 1) / k
-  ceiling g = rw (one-more gs g) (rounds-most (length gs) n k pos passes-most)
+  pub within-ceiling : (g : List Link) → length (gs ++ (g ∷ [])) ≤ ceiling n k
+  within-ceiling g = rw (one-more gs g) (rounds-most (length gs) n k pos passes-most)
 
-  -- So is n/(k + 1) rounded up.
-  pub ceiling-more : (g : List Link) → length (gs ++ (g ∷ [])) ≤ (n + k) / (k + 1)
-  ceiling-more g = rw (one-more gs g) (rounds-more (length gs) n k passes-most)
+  pub within-lower : (g : List Link) → length (gs ++ (g ∷ [])) ≤ lowerCeiling n k
+  within-lower g = rw (one-more gs g) (rounds-more (length gs) n k passes-most)

@@ -1,6 +1,6 @@
 -- Known instances that meet the premises of theorems, so that these are not empty.
 -- Assumes nothing.
-use Prim.Native.Nat.{ℕ, suc, _+_, _-_, _/_, _≤_}
+use Prim.Native.Nat.{ℕ, suc, _≤_}
 use mathlib.Core.Path.{_≡_, refl, _∙_}
 use mathlib.Core.Bool.{true, false}
 use native.Mathlib.Omega.{arith}
@@ -12,14 +12,14 @@ use Rattle.rules.specs.Links.{between, linked, tally, Among}
 use Rattle.rules.specs.Forest.{DepthFirst}
 use Rattle.rules.specs.Search.{count, some, every, first, table}
 use Rattle.rules.specs.Tables.{parentOf, rank, noteOf, markOf, placed, par, fresh, place, putNote, putMark, putHeld, cleared}
-use Rattle.rules.specs.Building.{alone, merged, piecesFrom, pieces, member, sizeOf, heldIn, better, noteLink, hold, fill, holdLink, buildLink, buildLinks, noted, topOf, hang, nextOf, reachNext, goBack, walkStep, walkSteps, walked, placePath, lost, placeWalk, placePiece, placeFrom, placePieces, closeBuilding, done, pass, passes}
+use Rattle.rules.specs.Building.{alone, merged, piecesFrom, pieces, member, sizeOf, heldIn, better, noteLink, hold, fill, holdLink, buildLink, buildLinks, noted, topOf, hang, nextOf, reachNext, goBack, walkStep, walkSteps, walked, placePath, lost, placeWalk, placePiece, placeFrom, placePieces, closeBuilding, done, pass, passes, ceiling, lowerCeiling}
 use Rattle.rules.specs.Known.{square}
 use Rattle.rules.specs.Laws.Links.{among-nil, among-cons}
 use Rattle.rules.specs.Laws.Facts.{Loose, Ready}
 use Rattle.rules.specs.Laws.Tables.{putHeld-forest, same-rank, standing-same, fresh-loose, fresh-standing}
 use Rattle.rules.specs.Laws.Path.{hung, hung-ready}
 use Rattle.rules.specs.Laws.Passes.{result}
-use Rattle.rules.specs.Laws.Ceiling.{ceiling}
+use Rattle.rules.specs.Laws.Ceiling.{within-ceiling}
 
 -- P1 tells links among 4 fragments.
 pub met-among : Among 4 (linked square)
@@ -35,11 +35,11 @@ pub met-unfinished : done 4 (passes 4 1 (fresh 4) (square ∷ [])) ≡ false
 unfolding pick between linked tally count some every first table parentOf rank noteOf markOf placed fresh place putNote putMark putHeld cleared alone merged piecesFrom pieces member sizeOf heldIn better noteLink hold fill holdLink buildLink buildLinks noted topOf hang nextOf reachNext goBack walkStep walkSteps walked placePath lost placeWalk placePiece placeFrom placePieces closeBuilding done pass passes square
 met-unfinished = refl
 
-pub met-ceiling : length ((square ∷ []) ++ (square ∷ [])) ≤ (4 + 1 - 1) / 1
-met-ceiling = ceiling 4 1 (omega arith) (square ∷ []) (met-among, tt) (false-T (done 4 (passes 4 1 (fresh 4) (square ∷ []))) met-unfinished) square
+pub met-ceiling : length ((square ∷ []) ++ (square ∷ [])) ≤ ceiling 4 1
+met-ceiling = within-ceiling 4 1 (omega arith) (square ∷ []) (met-among, tt) (false-T (done 4 (passes 4 1 (fresh 4) (square ∷ []))) met-unfinished) square
 
--- and its two passes are all that n/(k + 1), rounded up, allows.
-pub met-most : length (square ∷ square ∷ []) ≡ (4 + 1) / (1 + 1)
+-- and its two passes are all that the lower ceiling allows.
+pub met-most : length (square ∷ square ∷ []) ≡ lowerCeiling 4 1
 met-most = refl
 
 -- The result: P1's two passes tell one set, among 4 fragments, and leave nothing unplaced; so they give a depth-first forest of it.
