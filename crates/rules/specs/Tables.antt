@@ -63,6 +63,14 @@ putHeld h t = record { parent = t .parent; level = t .level; note = t .note; mar
 unfoldable pub putCrossed : Bool → Tables → Tables
 putCrossed b t = record { parent = t .parent; level = t .level; note = t .note; mark = t .mark; held = t .held; crossed = b }
 
--- Notes, marks and held links cleared.
+-- 'the notes are cleared': the marks go with them, and the false mark of a reading pass.
+abbrev pub clearNotes : ℕ → Tables → Tables
+clearNotes n t = record { parent = t .parent; level = t .level; note = replicate n 0; mark = replicate n 0; held = t .held; crossed = false }
+
+-- Held links are cleared.
+abbrev pub clearHeld : Tables → Tables
+clearHeld t = record { parent = t .parent; level = t .level; note = t .note; mark = t .mark; held = []; crossed = t .crossed }
+
+-- Both, as B6 has it; outside Building no link is held, and clearing the notes comes to the same.
 unfoldable pub cleared : ℕ → Tables → Tables
-cleared n t = record { parent = t .parent; level = t .level; note = replicate n 0; mark = replicate n 0; held = []; crossed = false }
+cleared n t = clearNotes n (clearHeld t)
