@@ -1,6 +1,6 @@
 -- Forests as tables of parents, and when one is a depth-first forest of a set of links. Definitions only.
 -- Assumes nothing.
-use Prim.Native.Nat.{ℕ, zero, suc, _<_}
+use Prim.Native.Nat.{ℕ, zero, suc, _-_, _<_}
 use mathlib.Core.Path.{_≡_}
 use mathlib.Core.Bool.{cond}
 use mathlib.Core.Logic.{_⊎_, _≢_}
@@ -15,6 +15,15 @@ up par (suc k) v = up par k (par v)
 -- a is on b's way to the root; b itself counts.
 abbrev pub Above : (ℕ → ℕ) → ℕ → ℕ → Type 0
 Above par a b = (k : ℕ) × (up par k b ≡ a)
+
+-- The same where levels are known, with the steps counted: by the law of levels Above and Over are one (Laws.Up.above-over), and Over can be tested
+-- (`above` in Reading.antt).
+abbrev pub Over : (ℕ → ℕ) → (ℕ → ℕ) → ℕ → ℕ → Type 0
+Over par lev a b = up par (lev b - lev a) b ≡ a
+
+-- The law of levels: a root by itself at level 0, or a parent one level higher up.
+abbrev pub Levels : ℕ → (ℕ → ℕ) → (ℕ → ℕ) → Type 0
+Levels n par lev = (v : ℕ) → v < n → ((par v ≡ v) × (lev v ≡ 0)) ⊎ ((par v < n) × (lev v ≡ suc (lev (par v))))
 
 -- The level: how many steps the way to the root has, counted up to a bound.
 unfoldable pub depth : (ℕ → ℕ) → ℕ → ℕ → ℕ

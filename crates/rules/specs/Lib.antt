@@ -6,6 +6,7 @@ pub mod Tables
 pub mod Building
 pub mod Adopting
 pub mod Reading
+pub mod Facts
 pub mod Known
 pub mod Laws
 pub mod Theorems

@@ -29,13 +29,26 @@ unfoldable pub tally : (Link → Bool) → List Link → ℕ
 tally p [] = 0
 tally p (l ∷ g) = cond (p l) (suc (tally p g)) (tally p g)
 
--- Two lists tell the same set of links, in any order and with any repeats.
+-- The list tells the set E, in any order and with any repeats.
+abbrev pub Tells : Links → List Link → Type 0
+Tells E g = (u v : ℕ) → linked g u v ≡ E u v
+
+-- Two lists tell the same set.
 abbrev pub SameSet : List Link → List Link → Type 0
-SameSet g h = (u v : ℕ) → linked g u v ≡ linked h u v
+SameSet g h = Tells (linked h) g
+
+-- Every list of some has a property.
+abbrev pub Each : (List Link → Type 0) → List (List Link) → Type 0
+Each P [] = Unit
+Each P (g ∷ gs) = P g × Each P gs
 
 -- 'fragment numbers (0 to n-1)', and no link from a fragment to itself: what the scan of a block lets through.
 abbrev pub Among : ℕ → Links → Type 0
 Among n E = (u v : ℕ) → T (E u v) → (u < n) × (v < n) × (u ≢ v)
+
+-- The ends of the links of a list are below n.
+abbrev pub Inside : ℕ → List Link → Type 0
+Inside n g = (u v : ℕ) → T (linked g u v) → (u < n) × (v < n)
 
 -- A chain of links from a to c.
 pub data Joined (R : ℕ → ℕ → Type 0) : ℕ → ℕ → Type 0 where

@@ -5,7 +5,7 @@ use mathlib.Core.Bool.{Bool, not, _||_, cond}
 use mathlib.Core.List.{List, [], _∷_}
 use mathlib.Core.Logic.{_≢_}
 use lib.Dec.{T, eqb}
-use Rattle.rules.specs.Links.{Link, between, linked, JoinedBy}
+use Rattle.rules.specs.Links.{Link, Links, between, linked, JoinedBy}
 
 -- The entries of a list that pass a test.
 unfoldable pub keep : (Link → Bool) → List Link → List Link
@@ -38,7 +38,11 @@ pub record Cut (g : List Link) (v : ℕ) : Type 0 where
   pub joined : JoinedBy (linked g) one two
   pub through : JoinedBy (linked (withoutFragment v g)) one two → ⊥
 
--- p is the smallest fragment that v is joined with.
-pub record Piece (g : List Link) (v p : ℕ) : Type 0 where
-  pub joined : JoinedBy (linked g) v p
-  pub smallest : (u : ℕ) → JoinedBy (linked g) v u → p ≤ u
+-- p is the smallest fragment that v is joined with, by the links of a set,
+pub record PieceIn (E : Links) (v p : ℕ) : Type 0 where
+  pub joined : JoinedBy E v p
+  pub smallest : (u : ℕ) → JoinedBy E v u → p ≤ u
+
+-- by those of a list.
+abbrev pub Piece : List Link → ℕ → ℕ → Type 0
+Piece g = PieceIn (linked g)

@@ -8,23 +8,22 @@ use mathlib.Core.List.{List, [], _∷_, _++_}
 use mathlib.Core.Logic.{_↔_}
 use lib.ListN.{length, getD}
 use lib.Dec.{T, eqb}
-use Rattle.rules.specs.Links.{Link, Links, linked, Among, SameSet, JoinedBy}
+use Rattle.rules.specs.Links.{Link, Links, linked, Among, SameSet, JoinedBy, Tells, Each, Inside}
 use Rattle.rules.specs.Removal.{Sole, Cut, Piece}
 use Rattle.rules.specs.Forest.{DepthFirst}
 use Rattle.rules.specs.Search.{count, least}
 use Rattle.rules.specs.Tables.{Tables, markOf, placed, par, lev, fresh, cleared}
 use Rattle.rules.specs.Building.{pieces, member, walked, buildLinks, done, pass, passes, ceiling, lowerCeiling}
 use Rattle.rules.specs.Reading.{readLinks, accepted, lowest, sole, cut, piece}
-use Rattle.rules.specs.Laws.Facts.{Standing, Rested, Loose, Holding, Underway, Ready, Walked}
-use Rattle.rules.specs.Laws.Partial.{Partial, Tells, Each}
+use Rattle.rules.specs.Facts.{Standing, Unnoted, Rested, Loose, Holding, Underway, Ready, Walked, Partial, NotesOf, SameReports}
 use Rattle.rules.specs.Laws.Walk.{walk}
 use Rattle.rules.specs.Laws.Step.{list-kept}
 use Rattle.rules.specs.Laws.Quota.{held-most}
-use Rattle.rules.specs.Laws.Pieces.{Inside, pieces-joined, label-least}
-use Rattle.rules.specs.Laws.Reading.{note-exact}
+use Rattle.rules.specs.Laws.Pieces.{pieces-joined, label-least}
+use Rattle.rules.specs.Laws.Reading.{read-notes, note-exact}
 use Rattle.rules.specs.Laws.Passes.{fresh-partial, pass-keeps, pass-grows, pass-finishes, result}
 use Rattle.rules.specs.Laws.Ceiling.{unfinished-places, within-ceiling, within-lower}
-use Rattle.rules.specs.Laws.Reports.{SameReports, reading-exact, sole-exact, cut-exact, piece-exact, equal-reports}
+use Rattle.rules.specs.Laws.Reports.{accepts, noted-sole, noted-cut, noted-piece, noted-reports, reading-exact, sole-exact, cut-exact, piece-exact, equal-reports}
 
 -- 1. Every pass keeps the invariant: what stands is part of a depth-first forest of the set, and each unplaced part hangs on one way to the root
 -- (record Partial). It is kept by a pass that tells the set in any order and with any repeats,
@@ -60,7 +59,15 @@ unfinished-pass-places n k t g pos S R among = unfinished-places pos S R g among
 pub passes-within : (n k : ℕ) (gs : List (List Link)) (g : List Link) → 1 ≤ k → Each (λ h. Among n (linked h)) gs → (T (done n (passes n k (fresh n) gs)) → ⊥) → (length (gs ++ (g ∷ [])) ≤ ceiling n k) × (length (gs ++ (g ∷ [])) ≤ lowerCeiling n k)
 passes-within n k gs g pos among left = (within-ceiling n k pos gs among left g, within-lower n k pos gs among left g)
 
--- 5. Reading: the reading rules accept exactly the lists of which the table is a depth-first forest, for every table of parents, adopted ones too.
+-- 5. Reading: where no note stood, the notes that a list leaves are those that the reading rules say of it (record NotesOf),
+pub reading-notes : (n : ℕ) (t : Tables) (g : List Link) → Standing n t → Unnoted n t → Among n (linked g) → NotesOf n g (readLinks t g)
+reading-notes n t g S Z = read-notes S Z g
+
+-- and with such notes exactly the lists are accepted of which the table is a depth-first forest.
+pub notes-accept : (n : ℕ) (t : Tables) (g : List Link) → NotesOf n g t → T (accepted n t) ↔ DepthFirst n (par t) (linked g)
+notes-accept n t g = accepts
+
+-- So the reading rules accept exactly the lists of which the table is a depth-first forest, for every table of parents, adopted ones too.
 -- (P1's parents: Laws.MetReading; P8 and P9 are refused.)
 pub reading-accepts : (n : ℕ) (t : Tables) (g : List Link) → Standing n t → Among n (linked g) → T (accepted n (readLinks (cleared n t) g)) ↔ DepthFirst n (par t) (linked g)
 reading-accepts n t g S among = reading-exact S g among
@@ -69,7 +76,18 @@ reading-accepts n t g S among = reading-exact S g among
 pub note-least : (n : ℕ) (t : Tables) (g : List Link) → Standing n t → Among n (linked g) → (v : ℕ) → v < n → lowest (readLinks (cleared n t) g) v ≡ least (λ w. linked g v w && not (eqb w (par t v))) (lev t) (lev t v) n
 note-least n t g S among = note-exact S g among
 
--- 6. Removal: where reading accepts, sole, cut and piece are those by removal on the list read, both ways. (P1: Laws.MetReading.met-sole, met-cut.)
+-- 6. Removal: in a depth-first forest of a list, with its notes, sole, cut and piece are those by removal on the list, both ways.
+module _ (n : ℕ) (t : Tables) (g : List Link) (notes : NotesOf n g t) (forest : DepthFirst n (par t) (linked g)) where
+  pub sole-by-notes : (a b : ℕ) → a < n → b < n → T (sole n t a b) ↔ Sole g a b
+  sole-by-notes = noted-sole notes forest
+
+  pub cut-by-notes : (v : ℕ) → v < n → T (cut n t v) ↔ Cut g v
+  cut-by-notes = noted-cut notes forest
+
+  pub piece-by-notes : (v : ℕ) → v < n → Piece g v (piece n t v)
+  piece-by-notes = noted-piece notes forest
+
+-- So they are where reading accepts, on the list read. (P1: Laws.MetReading.met-sole, met-cut.)
 module _ (n : ℕ) (t : Tables) (g : List Link) (S : Standing n t) (among : Among n (linked g)) (read : T (accepted n (readLinks (cleared n t) g))) where
   pub sole-by-removal : (a b : ℕ) → a < n → b < n → T (sole n (readLinks (cleared n t) g) a b) ↔ Sole g a b
   sole-by-removal = sole-exact S g among read
@@ -80,8 +98,12 @@ module _ (n : ℕ) (t : Tables) (g : List Link) (S : Standing n t) (among : Amon
   pub piece-by-removal : (v : ℕ) → v < n → Piece g v (piece n (readLinks (cleared n t) g) v)
   piece-by-removal = piece-exact S g among read
 
--- 7. Equal reports: two tables that accept lists telling the same set answer piece, sole and cut alike. (Two forests of P1's links:
--- Laws.MetReading.met-equal.) That an accepted reading is true of the list it read, whatever the passes told, is 6: it asks nothing of the passes.
+-- 7. Equal reports: two depth-first forests of one set, with the notes of lists that tell it, answer piece, sole and cut alike;
+pub reports-by-notes : (n : ℕ) (s t : Tables) (g h : List Link) → NotesOf n g s → NotesOf n h t → DepthFirst n (par s) (linked g) → DepthFirst n (par t) (linked h) → SameSet g h → SameReports n s t
+reports-by-notes n s t g h = noted-reports
+
+-- so do two tables that accept lists telling the same set. (Two forests of P1's links: Laws.MetReading.met-equal.) That an accepted reading is true
+-- of the list it read, whatever the passes told, is 6: it asks nothing of the passes.
 pub reports-equal : (n : ℕ) (s t : Tables) (g h : List Link) → Standing n s → Standing n t → Among n (linked g) → SameSet g h → T (accepted n (readLinks (cleared n s) g)) → T (accepted n (readLinks (cleared n t) h)) → SameReports n (readLinks (cleared n s) g) (readLinks (cleared n t) h)
 reports-equal n s t g h S Z among same = equal-reports S Z g h among same
 

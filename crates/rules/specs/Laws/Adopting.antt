@@ -12,11 +12,11 @@ use lib.ListN.{length, length-replicate}
 use lib.Seq.{getD-take, length-take-le}
 use borrow.Author.Tests.{eq-eqb, ne-eqb}
 use Rattle.base.specs.Truth.{and-intro, and-l, and-r, eq→eqb}
-use Rattle.rules.specs.Forest.{up, depth}
+use Rattle.rules.specs.Forest.{up, depth, Levels}
 use Rattle.rules.specs.Search.{every}
 use Rattle.rules.specs.Tables.{parentOf, rank, placed, par}
 use Rattle.rules.specs.Adopting.{parentIn, rootedIn, adoptable, adopted}
-use Rattle.rules.specs.Laws.Facts.{Levels, Standing, Rested}
+use Rattle.rules.specs.Facts.{Standing, Rested}
 use Rattle.rules.specs.Laws.Search.{every-at, every-intro, below-suc, table-length, table-at}
 use Rattle.rules.specs.Laws.Up.{up-zero, up-suc, up-add, up-rest, up-in, up-lev, root-par, level-below}
 use Rattle.rules.specs.Laws.Tables.{rank-placed, par-placed}

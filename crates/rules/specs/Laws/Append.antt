@@ -5,14 +5,13 @@ use mathlib.Core.Path.{_≡_, refl, sym, ap, _∙_}
 use mathlib.Core.Bool.{Bool}
 use mathlib.Core.List.{List, [], _∷_, _++_}
 use mathlib.Core.Logic.{inl, inr}
-use Rattle.rules.specs.Links.{Link, Links, linked, Among}
+use Rattle.rules.specs.Links.{Link, Links, linked, Among, Each}
 use Rattle.rules.specs.Forest.{up, DepthFirst}
 use Rattle.rules.specs.Tables.{Tables, cleared}
 use Rattle.rules.specs.Building.{buildLink, buildLinks, pass, passes}
-use Rattle.rules.specs.Laws.Facts.{Standing, Rested}
+use Rattle.rules.specs.Facts.{Standing, Rested}
 use Rattle.rules.specs.Laws.Links.{append-cases}
 use Rattle.rules.specs.Laws.Tables.{SameForest}
-use Rattle.rules.specs.Laws.Partial.{Each}
 use Rattle.rules.specs.Laws.Passes.{pass-stands, pass-rests}
 
 -- Blocks add up to one list.

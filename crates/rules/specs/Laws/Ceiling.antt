@@ -10,16 +10,15 @@ use native.Mathlib.Nat.{suc-mul, mul-suc, le-div-iff-mul-le}
 use lib.Dec.{T}
 use lib.ListN.{length, length-append}
 use Rattle.base.specs.Truth.{and-intro, T-dec}
-use Rattle.rules.specs.Links.{Link, linked, Among}
+use Rattle.rules.specs.Links.{Link, linked, Among, Each}
 use Rattle.rules.specs.Search.{count, every}
 use Rattle.rules.specs.Tables.{Tables, placed, fresh}
 use Rattle.rules.specs.Building.{done, pass, passes, ceiling, lowerCeiling}
-use Rattle.rules.specs.Laws.Facts.{Standing, Rested}
+use Rattle.rules.specs.Facts.{Standing, Rested}
 use Rattle.rules.specs.Laws.Search.{count-le, count-yes, count-no, every-at, every-intro}
 use Rattle.rules.specs.Laws.Tables.{same-placed, same-rank, fresh-standing, fresh-rested}
 use Rattle.rules.specs.Laws.Kept.{kept-placed}
 use Rattle.rules.specs.Laws.Close.{not-placed}
-use Rattle.rules.specs.Laws.Partial.{Each}
 use Rattle.rules.specs.Laws.Passes.{was-told, told-forest, told-stands, pass-forest, pass-stands, pass-rests, pass-kept}
 use Rattle.rules.specs.Laws.Unfinished.{close-places}
 

@@ -11,20 +11,22 @@ use lib.ListN.{getD, List·getD-eq-default}
 use lib.Dec.{T, ltb, T-not, not-T, eqb·suc-zero}
 use Rattle.base.specs.Pick.{pick}
 use Rattle.base.specs.Truth.{and-intro, and-l, and-r, T-dec, T-true, T-false}
-use Rattle.rules.specs.Links.{Link, Links, linked, Among, JoinedBy, here}
+use Rattle.rules.specs.Links.{Link, Links, linked, Among, JoinedBy, here, Inside}
 use Rattle.rules.specs.Search.{some}
 use Rattle.rules.specs.Tables.{Tables, parentOf, rank, noteOf, markOf, placed, par, lev}
 use Rattle.rules.specs.Building.{Walk, pieces, member, lost, noted, topOf, hang, walked, placePath, placeWalk, placePiece, placeFrom, placePieces}
-use Rattle.rules.specs.Laws.Facts.{Levels, Over, Standing, Loose, Learnt, Ready, Walked}
+use Rattle.rules.specs.Forest.{Levels, Over}
+use Rattle.rules.specs.Facts.{Standing, Loose, Ready, Walked, OneWay}
+use Rattle.rules.specs.Laws.Facts.{Learnt}
 use Rattle.rules.specs.Laws.Chain.{carry}
 use Rattle.rules.specs.Laws.Up.{over-par, over-meet}
 use Rattle.rules.specs.Laws.Tables.{placed-rank, rank-placed, placed-loose, placed-or-loose, par-placed, same-noteOf, parentOf-place-same, standing-levels}
-use Rattle.rules.specs.Laws.Pieces.{Inside, label-joined, joined-label, label-joins, joined-in, member-intro, member-elim}
+use Rattle.rules.specs.Laws.Pieces.{label-joined, joined-label, label-joins, joined-in, member-intro, member-elim}
 use Rattle.rules.specs.Laws.Kept.{Kept, kept-placed, kept-par, over-kept, over-before}
 use Rattle.rules.specs.Laws.Walk.{walk}
 use Rattle.rules.specs.Laws.Path.{Hung, hung, hung-ready, OnPath, PathPlaced, path-placed}
 use Rattle.rules.specs.Laws.Noted.{top-none, top-noted, noted-deep}
-use Rattle.rules.specs.Laws.Partial.{OneWay, Of, label, Hook, Shape, Treated, Closing}
+use Rattle.rules.specs.Laws.Partial.{Of, label, Hook, Shape, Treated, Closing}
 
 -- Only a fragment is placed.
 pub placed-in : {n : ℕ} {t : Tables} → Standing n t → (v : ℕ) → T (placed t v) → v < n

@@ -11,7 +11,8 @@ use Rattle.rules.specs.Links.{Links, linked}
 use Rattle.rules.specs.Search.{count}
 use Rattle.rules.specs.Tables.{Tables, parentOf, noteOf, placed}
 use Rattle.rules.specs.Building.{pieces, placePieces, closeBuilding}
-use Rattle.rules.specs.Laws.Facts.{Standing, Rested, Loose, Underway, Learnt}
+use Rattle.rules.specs.Facts.{Standing, Rested, Loose, Underway}
+use Rattle.rules.specs.Laws.Facts.{Learnt}
 use Rattle.rules.specs.Laws.Chain.{one}
 use Rattle.rules.specs.Laws.Tables.{same-parentOf, same-rank, same-placed, placed-loose, standing-cleared, cleared-forest, cleared-rested}
 use Rattle.rules.specs.Laws.Kept.{kept-placed}

@@ -10,17 +10,18 @@ use lib.Dec.{T}
 use native.Mathlib.Decide.{ℕ-discrete}
 use Rattle.base.specs.Truth.{T-dec}
 use Rattle.rules.specs.Links.{Links, Among, Joined}
-use Rattle.rules.specs.Forest.{up, DepthFirst}
+use Rattle.rules.specs.Forest.{up, DepthFirst, Over}
 use Rattle.rules.specs.Search.{count}
 use Rattle.rules.specs.Tables.{Tables, rank, placed, par, lev}
 use Rattle.rules.specs.Building.{pieces, lost, done}
-use Rattle.rules.specs.Laws.Facts.{Over, Standing, Loose, Learnt}
+use Rattle.rules.specs.Facts.{Standing, Loose, OneWay, Free, Partial}
+use Rattle.rules.specs.Laws.Facts.{Learnt}
 use Rattle.rules.specs.Laws.Chain.{carry, wider}
 use Rattle.rules.specs.Laws.Search.{every-at, count-mono, count-yes, count-no}
 use Rattle.rules.specs.Laws.Up.{par-in, up-in, up-lev, root-par, over-refl, over-lev, over-same, over-trans}
 use Rattle.rules.specs.Laws.Tables.{placed-loose, placed-or-loose, lev-rank, standing-levels}
 use Rattle.rules.specs.Laws.Kept.{kept-placed, kept-par, over-kept}
-use Rattle.rules.specs.Laws.Partial.{OneWay, Free, Partial, Of, label, Treated, Closing}
+use Rattle.rules.specs.Laws.Partial.{Of, label, Treated, Closing}
 use Rattle.rules.specs.Laws.Close.{placed-in, not-placed, one-way-kept, of-joined, joined-of, of-loose, label-of}
 
 -- Where more pass, and one that did not, more are counted.

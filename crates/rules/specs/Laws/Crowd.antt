@@ -14,7 +14,8 @@ use Rattle.rules.specs.Links.{Link, between, linked, tally, Among, Joine
 use Rattle.rules.specs.Forest.{up}
 use Rattle.rules.specs.Search.{count, some}
 use Rattle.rules.specs.Tables.{Tables, rank, par, lev}
-use Rattle.rules.specs.Laws.Facts.{Walked, Crowded}
+use Rattle.rules.specs.Facts.{Walked}
+use Rattle.rules.specs.Laws.Facts.{Crowded}
 use Rattle.rules.specs.Laws.Chain.{join}
 use Rattle.rules.specs.Laws.Links.{between-here, between-turn}
 use Rattle.rules.specs.Laws.Search.{some-intro}

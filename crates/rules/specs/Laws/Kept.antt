@@ -6,10 +6,10 @@ use mathlib.Core.Logic.{inl, inr}
 use native.Mathlib.Omega.{arith}
 use lib.ListN.{length}
 use lib.Dec.{T, ltb}
-use Rattle.rules.specs.Forest.{up}
+use Rattle.rules.specs.Forest.{up, Over}
 use Rattle.rules.specs.Search.{count}
 use Rattle.rules.specs.Tables.{Tables, parentOf, rank, placed, par, lev, place}
-use Rattle.rules.specs.Laws.Facts.{Over, Standing, Loose}
+use Rattle.rules.specs.Facts.{Standing, Loose}
 use Rattle.rules.specs.Laws.Search.{count-one-more}
 use Rattle.rules.specs.Laws.Up.{over-lev}
 use Rattle.rules.specs.Laws.Tables.{placed-rank, placed-loose, par-placed, lev-rank, standing-levels, placed-place-same, placed-place-other}

@@ -14,8 +14,8 @@ use Rattle.rules.specs.Search.{count, some, every, first, table}
 use Rattle.rules.specs.Tables.{parentOf, rank, noteOf, markOf, placed, par, fresh, place, putNote, putMark, putHeld, cleared}
 use Rattle.rules.specs.Building.{alone, merged, piecesFrom, pieces, member, sizeOf, heldIn, better, noteLink, hold, fill, holdLink, buildLink, buildLinks, noted, topOf, hang, nextOf, reachNext, goBack, walkStep, walkSteps, walked, placePath, lost, placeWalk, placePiece, placeFrom, placePieces, closeBuilding, done, pass, passes, ceiling, lowerCeiling}
 use Rattle.rules.specs.Known.{square}
+use Rattle.rules.specs.Facts.{Loose, Ready}
 use Rattle.rules.specs.Laws.Links.{among-nil, among-cons}
-use Rattle.rules.specs.Laws.Facts.{Loose, Ready}
 use Rattle.rules.specs.Laws.Tables.{putHeld-forest, same-rank, standing-same, fresh-loose, fresh-standing}
 use Rattle.rules.specs.Laws.Path.{hung, hung-ready}
 use Rattle.rules.specs.Laws.Passes.{result}

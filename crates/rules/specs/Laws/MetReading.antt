@@ -14,9 +14,9 @@ use Rattle.rules.specs.Removal.{Sole, Cut}
 use Rattle.rules.specs.Adopting.{rootedIn, adoptable, adopted}
 use Rattle.rules.specs.Reading.{above, hear, readLink, readLinks, seen, accepted, lowest, reach, childOf, soleBelow, sole, cut}
 use Rattle.rules.specs.Known.{square}
-use Rattle.rules.specs.Laws.Facts.{Standing}
+use Rattle.rules.specs.Facts.{Standing, SameReports}
 use Rattle.rules.specs.Laws.Adopting.{adopted-stands}
-use Rattle.rules.specs.Laws.Reports.{sole-exact, cut-exact, SameReports, equal-reports}
+use Rattle.rules.specs.Laws.Reports.{sole-exact, cut-exact, equal-reports}
 use Rattle.rules.specs.Laws.Met.{met-among}
 
 -- Two depth-first forests of P1's links, and a reading of these links after adopting one of them.

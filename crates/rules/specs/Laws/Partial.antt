@@ -1,43 +1,17 @@
--- What a pass is told, the building invariant, and what a close makes of one piece and of all. Definitions only.
+-- What a close makes of one piece and of all.
 -- Assumes nothing.
 use Prim.Native.Nat.{ℕ, _<_, _≤_}
 use mathlib.Core.Path.{_≡_}
 use mathlib.Core.Logic.{_⊎_, _≢_}
-use mathlib.Core.List.{List, [], _∷_}
 use lib.ListN.{getD}
 use lib.Dec.{T}
-use Rattle.rules.specs.Links.{Link, Links, linked, Joined}
+use Rattle.rules.specs.Links.{Links, linked}
+pub use Rattle.rules.specs.Links.{Tells, Each}
 use Rattle.rules.specs.Tables.{Tables, parentOf, rank, placed, par, lev}
 use Rattle.rules.specs.Building.{pieces, lost}
-use Rattle.rules.specs.Laws.Facts.{Over, Standing, Loose}
+use Rattle.rules.specs.Forest.{Over}
+use Rattle.rules.specs.Facts.{Standing, Loose, OneWay}
 use Rattle.rules.specs.Laws.Kept.{Kept}
-
--- The list tells the set E, in any order and with any repeats.
-abbrev pub Tells : Links → List Link → Type 0
-Tells E g = (u v : ℕ) → linked g u v ≡ E u v
-
--- Every list of some has a property.
-abbrev pub Each : (List Link → Type 0) → List (List Link) → Type 0
-Each P [] = Unit
-Each P (g ∷ gs) = P g × Each P gs
-
--- a and b lie on one way to the root.
-abbrev pub OneWay : Tables → ℕ → ℕ → Type 0
-OneWay t a b = Over (par t) (lev t) a b ⊎ Over (par t) (lev t) b a
-
--- A link between two unplaced fragments.
-abbrev pub Free : Links → Tables → ℕ → ℕ → Type 0
-Free E t u v = T (E u v) × Loose t u × Loose t v
-
--- What stands is part of a depth-first forest of E, and each unplaced part can still be hung in it.
-pub record Partial (n : ℕ) (E : Links) (t : Tables) : Type 0 where
-  pub standing : Standing n t
-  -- 'each fragment not a root has its parent link in the set'
-  pub tree : (v : ℕ) → T (placed t v) → par t v ≢ v → T (E v (par t v))
-  -- 'every link joins a fragment and one above it on its way to the root', where both are placed
-  pub spans : (u v : ℕ) → T (E u v) → T (placed t u) → T (placed t v) → OneWay t u v
-  -- the placed neighbours of unplaced fragments that are joined through unplaced ones lie on one way
-  pub one-way : (u v a b : ℕ) → Joined (Free E t) u v → Loose t u → T (E u a) → T (placed t a) → T (E v b) → T (placed t b) → OneWay t a b
 
 -- The smallest member of v's piece.
 abbrev pub label : ℕ → Tables → ℕ → ℕ

@@ -7,19 +7,20 @@ use mathlib.Core.List.{List, [], _∷_}
 use mathlib.Core.Logic.{inl, inr}
 use native.Mathlib.Omega.{arith}
 use lib.Dec.{T}
-use Rattle.rules.specs.Links.{Link, Links, linked, Among}
+use Rattle.rules.specs.Links.{Link, Links, linked, Among, Tells, Each}
 use Rattle.rules.specs.Forest.{DepthFirst}
 use Rattle.rules.specs.Search.{count}
 use Rattle.rules.specs.Tables.{Tables, markOf, placed, par, fresh}
 use Rattle.rules.specs.Building.{pieces, lost, buildLinks, placePieces, closeBuilding, done, pass, passes}
-use Rattle.rules.specs.Laws.Facts.{Standing, Rested, Loose, Told}
+use Rattle.rules.specs.Facts.{Standing, Rested, Loose, Partial}
+use Rattle.rules.specs.Laws.Facts.{Told}
 use Rattle.rules.specs.Laws.Chain.{wider}
 use Rattle.rules.specs.Laws.Links.{linked-turn}
 use Rattle.rules.specs.Laws.Search.{every-intro}
 use Rattle.rules.specs.Laws.Tables.{SameForest, same-parentOf, same-rank, same-placed, same-par, same-lev, placed-loose, placed-or-loose, standing-same, standing-cleared, cleared-forest, cleared-rested, fresh-loose, fresh-standing, fresh-rested}
 use Rattle.rules.specs.Laws.Kept.{Kept}
 use Rattle.rules.specs.Laws.Told.{lost-elim, told}
-use Rattle.rules.specs.Laws.Partial.{Tells, Each, Partial, label, Closing}
+use Rattle.rules.specs.Laws.Partial.{label, Closing}
 use Rattle.rules.specs.Laws.Close.{closing}
 use Rattle.rules.specs.Laws.Closed.{left-lost, close-grows, close-keeps, whole-forest}
 

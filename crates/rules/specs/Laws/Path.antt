@@ -11,15 +11,15 @@ use lib.Dec.{T}
 use borrow.Author.Tests.{eq-eqb, ne-eqb}
 use Rattle.base.specs.Pick.{pick-true, pick-false}
 use Rattle.rules.specs.Links.{Link, linked, Among, JoinedBy, here}
-use Rattle.rules.specs.Forest.{up}
+use Rattle.rules.specs.Forest.{up, Levels, Over}
 use Rattle.rules.specs.Search.{count}
 use Rattle.rules.specs.Tables.{Tables, parentOf, rank, placed, par, lev, place}
 use Rattle.rules.specs.Building.{hang, placePath}
+use Rattle.rules.specs.Facts.{Standing, Loose, Ready, Walked}
 use Rattle.rules.specs.Laws.Up.{up-zero, up-suc, par-lev, up-lev, up-over, over-par-of}
 use Rattle.rules.specs.Laws.Tables.{placed-rank, rank-placed, placed-loose, par-placed, lev-rank, standing-levels, standing-place, place-note, place-mark, place-held, place-crossed, place-length, parentOf-place-same, parentOf-place-other, rank-place-same, rank-place-other}
 use Rattle.rules.specs.Laws.Kept.{Kept, rank-alike, place-count, kept-placed, kept-trans, parent-placed, over-rank}
 use Rattle.rules.specs.Laws.Walk.{member-in, walked-kept}
-use Rattle.rules.specs.Laws.Facts.{Levels, Over, Standing, Loose, Ready, Walked}
 
 -- t is s with the top hung: as a root, or under a fragment that is placed in s.
 pub record Hung (n top : ℕ) (s t : Tables) : Type 0 where

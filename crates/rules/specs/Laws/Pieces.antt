@@ -12,6 +12,7 @@ use lib.Dec.{T, eqb, eqb→eq}
 use Rattle.base.specs.Pick.{pick, tests}
 use Rattle.base.specs.Truth.{eq→eqb}
 use Rattle.rules.specs.Links.{Link, linked, JoinedBy, here}
+pub use Rattle.rules.specs.Links.{Inside}
 use Rattle.rules.specs.Laws.Chain.{join, one, carry, wider}
 use Rattle.rules.specs.Laws.Search.{table-length, table-at}
 use Rattle.rules.specs.Laws.Links.{between-here, between-elim, linked-nil, linked-head, linked-tail, append-left, snoc-cases, snoc-last, joined-turn}
@@ -100,10 +101,6 @@ from-length l ((a, b) ∷ held) = from-length (merged (a, b) l) held ∙ merged-
 pub pieces-length : (n : ℕ) (held : List Link) → length (pieces n held) ≡ n
 unfolding pieces
 pieces-length n held = from-length (alone n) held ∙ alone-length n
-
--- All ends of the list's links are below n.
-abbrev pub Inside : ℕ → List Link → Type 0
-Inside n held = (u v : ℕ) → T (linked held u v) → (u < n) × (v < n)
 
 -- The labels l are those of the pieces that the held links make.
 record Labelled (n : ℕ) (held : List Link) (l : List ℕ) : Type 0 where

@@ -11,10 +11,10 @@ use native.Mathlib.Decide.{ℕ-discrete, decLe, decLt}
 use lib.ListN.{length, getD}
 use lib.Dec.{T, ltb, ltb→lt, lt→ltb, not-T, T-not}
 use Rattle.base.specs.Truth.{and-intro, and-l, and-r, T-dec, T-ext}
-use Rattle.rules.specs.Links.{Link, between, linked, tally, JoinedBy}
+use Rattle.rules.specs.Links.{Link, between, linked, tally, JoinedBy, Inside}
 use Rattle.rules.specs.Search.{count}
 use Rattle.rules.specs.Tables.{Tables, placed}
-use Rattle.rules.specs.Laws.Facts.{Loose, Holding}
+use Rattle.rules.specs.Facts.{Loose, Holding}
 use Rattle.rules.specs.Laws.Partial.{label}
 use Rattle.rules.specs.Laws.Chain.{carry}
 use Rattle.rules.specs.Laws.Tables.{placed-loose, placed-or-loose}
@@ -22,7 +22,7 @@ use Rattle.rules.specs.Building.{merged, pieces, member, sizeOf, heldIn}
 use Rattle.rules.specs.Laws.Split.{bit, bit-yes, bit-no, bit-most, bit-parts, bit-under, count-suc, count-parts, count-some, tally-nil, tally-snoc, tally-parts, tally-same, tally-all, tally-none, by-between, between-flip}
 use Rattle.rules.specs.Laws.Search.{count-same, count-zero, count-le}
 use Rattle.rules.specs.Laws.Links.{linked-turn}
-use Rattle.rules.specs.Laws.Pieces.{Inside, merged-larger, merged-other, merged-one, merged-two, merged-inside, merged-keeps, pieces-snoc, member-intro, member-elim, label-in, label-joins, label-own}
+use Rattle.rules.specs.Laws.Pieces.{merged-larger, merged-other, merged-one, merged-two, merged-inside, merged-keeps, pieces-snoc, member-intro, member-elim, label-in, label-joins, label-own}
 
 -- A link's ends, smaller first.
 pub sorted : (P : ℕ → ℕ → Type 0) (a b : ℕ) → P a b → P b a → P (min a b) (max a b)

@@ -13,14 +13,15 @@ use borrow.Author.Tests.{eq-eqb, ne-eqb}
 use Rattle.base.specs.Pick.{pick, pick-true, pick-false, pick-all}
 use Rattle.base.specs.Truth.{and-intro, and-l, and-r, or-l, or-r, or-cases, T-true, T-false, T-dec, eq→eqb}
 use Rattle.rules.specs.Links.{Link, Among, linked, between}
-use Rattle.rules.specs.Forest.{up}
+use Rattle.rules.specs.Forest.{up, Above, Over}
 use Rattle.rules.specs.Search.{least}
+use Rattle.rules.specs.Facts.{Standing, Unnoted, NotesOf}
 use Rattle.rules.specs.Laws.Search.{least-default, least-le, least-hit}
 use Rattle.rules.specs.Tables.{Tables, noteOf, markOf, par, lev, putNote, putMark, putCrossed, cleared}
 use Rattle.rules.specs.Reading.{above, hear, readLink, readLinks, lowest}
-use Rattle.rules.specs.Laws.Facts.{Over, Standing}
 use Rattle.rules.specs.Laws.Links.{between-elim, between-here, between-turn, linked-nil, linked-cases, linked-head, linked-tail}
-use Rattle.rules.specs.Laws.Tables.{cleared-forest, cleared-rested, rested-note, rested-mark, standing-cleared, SameForest, forest-refl, forest-trans, same-par, same-lev, same-noteOf, same-markOf, putNote-forest, putMark-forest, putCrossed-forest, noteOf-putNote-same, noteOf-putNote-other, putNote-length, putNote-mark, putNote-held, putNote-crossed, markOf-putMark-same, markOf-putMark-other, putMark-length, putMark-note, putMark-held, putMark-crossed, putCrossed-note, putCrossed-mark, putCrossed-held, putCrossed-crossed}
+use Rattle.rules.specs.Laws.Up.{above-over}
+use Rattle.rules.specs.Laws.Tables.{cleared-forest, cleared-unnoted, unnoted-note, unnoted-mark, standing-same, standing-cleared, standing-levels, SameForest, forest-refl, forest-trans, same-par, same-lev, same-noteOf, same-markOf, putNote-forest, putMark-forest, putCrossed-forest, noteOf-putNote-same, noteOf-putNote-other, putNote-length, putNote-mark, putNote-held, putNote-crossed, markOf-putMark-same, markOf-putMark-other, putMark-length, putMark-note, putMark-held, putMark-crossed, putCrossed-note, putCrossed-mark, putCrossed-held, putCrossed-crossed}
 
 -- t is what s becomes when each v hears of each w with R v w.
 pub record Heard (n : ℕ) (R : ℕ → ℕ → Type 0) (s t : Tables) : Type 0 where
@@ -164,9 +165,9 @@ module _ {n : ℕ} (v w : ℕ) (s : Tables) (hn : length (s .note) ≡ n) (hm : 
   ]
 
 -- Who is above whom, as the test says.
-pub above-over : (t : Tables) (a b : ℕ) → T (above t a b) ↔ Over (par t) (lev t) a b
+pub above-test : (t : Tables) (a b : ℕ) → T (above t a b) ↔ Over (par t) (lev t) a b
 unfolding above
-above-over t a b = (eqb→eq (up (par t) (lev t b - lev t a) b) a, eq→eqb (up (par t) (lev t b - lev t a) b) a)
+above-test t a b = (eqb→eq (up (par t) (lev t b - lev t a) b) a, eq→eqb (up (par t) (lev t b - lev t a) b) a)
 
 -- The pass is marked false by a link of R where neither end is above the other, and by nothing else.
 pub record Crosses (R : ℕ → ℕ → Type 0) (s t : Tables) : Type 0 where
@@ -271,67 +272,68 @@ unfolding readLinks
 read-append t [] h = refl
 read-append t (e ∷ g) h = read-append (readLink t e) g h
 
--- What reading a list leaves of a forest that stands, from cleared notes.
-module _ {n : ℕ} {t : Tables} (S : Standing n t) (g : List Link) (A : Among n (linked g)) where
-  read-heard : Heard n (λ x y. T (linked g x y)) (cleared n t) (readLinks (cleared n t) g)
-  read-heard = heard-links g (cleared n t) (standing-cleared S .long-note) (standing-cleared S .long-mark) A
+-- What reading a list leaves of a forest that stands, where no note stood.
+module _ {n : ℕ} {t : Tables} (S : Standing n t) (Z : Unnoted n t) (g : List Link) (A : Among n (linked g)) where
+  heard : Heard n (λ x y. T (linked g x y)) t (readLinks t g)
+  heard = heard-links g t (S .long-note) (S .long-mark) A
 
-  read-crosses : Crosses (λ x y. T (linked g x y)) (cleared n t) (readLinks (cleared n t) g)
-  read-crosses = crosses-links g (cleared n t) (standing-cleared S .long-note) (standing-cleared S .long-mark) A
+  crosses : Crosses (λ x y. T (linked g x y)) t (readLinks t g)
+  crosses = crosses-links g t (S .long-note) (S .long-mark) A
 
-  -- 'parent, level, held unchanged'
-  pub read-forest : SameForest (readLinks (cleared n t) g) t
-  read-forest = forest-trans (read-heard .forest) (cleared-forest t n)
+  forest : SameForest (readLinks t g) t
+  forest = heard .forest
 
   -- The mark stands exactly where the parent link was read.
-  pub read-seen : (v : ℕ) → v < n → (0 < markOf (readLinks (cleared n t) g) v) ↔ T (linked g v (par t v))
-  read-seen v h =
-      let e : par (cleared n t) ≡ par t = same-par (cleared-forest t n) in (
-        (λ q. elim (read-heard .mark-hit v q) [ inl k ↦ absurd (omega (arith, rested-mark (cleared-rested n t) v)) | inr r ↦ (rw e at r) ]),
-        (λ r. read-heard .mark-link v h (rw e r)),
-      )
+  mark-read : (v : ℕ) → v < n → (0 < markOf (readLinks t g) v) ↔ T (linked g v (par t v))
+  mark-read v h = (
+    (λ q. elim (heard .mark-hit v q) [ inl k ↦ absurd (omega (arith, unnoted-mark Z v)) | inr r ↦ r ]),
+    heard .mark-link v h,
+  )
 
   -- The pass is false exactly where a link was read that has neither end above the other.
-  pub read-crossed : T (readLinks (cleared n t) g .crossed) → (u : ℕ) × (w : ℕ) × T (linked g u w) × (Over (par t) (lev t) u w → ⊥) × (Over (par t) (lev t) w u → ⊥)
-  read-crossed q =
-      let e : above (cleared n t) ≡ above t = same-above (cleared-forest t n) in
-      elim (read-crosses .cross-hit q) [
-        | inl k ↦ absurd (rw (cleared-rested n t .no-cross) at k)
-        | inr (u, w, r, f, h) ↦ (u, w, r, (λ o. f (rw e (above-over t u w .1 o))), (λ o. h (rw e (above-over t w u .1 o))))
-      ]
+  one-way : (T (readLinks t g .crossed) → ⊥) → (u v : ℕ) → T (linked g u v) → Above (par t) u v ⊎ Above (par t) v u
+  one-way f u v r = elim (T-dec (above t u v)) [
+    | yes a ↦ inl (lev t v - lev t u, above-test t u v .0 a)
+    | no a ↦ elim (T-dec (above t v u)) [
+      | yes b ↦ inr (lev t u - lev t v, above-test t v u .0 b)
+      | no b ↦ absurd (f (crosses .cross-link u v r a b))
+    ]
+  ]
 
-  pub read-crossing : (u w : ℕ) → T (linked g u w) → (Over (par t) (lev t) u w → ⊥) → (Over (par t) (lev t) w u → ⊥) → T (readLinks (cleared n t) g .crossed)
-  read-crossing u w r f h =
-      let e : above (cleared n t) ≡ above t = same-above (cleared-forest t n) in
-      read-crosses .cross-link u w r (λ q. f (above-over t u w .0 (rw e at q))) (λ q. h (above-over t w u .0 (rw e at q)))
+  uncrossed : ((u v : ℕ) → T (linked g u v) → Above (par t) u v ⊎ Above (par t) v u) → T (readLinks t g .crossed) → ⊥
+  uncrossed f q = elim (crosses .cross-hit q) [
+    | inl k ↦ rw (Z .no-cross) at k
+    | inr (u, w, r, i, j) ↦ elim (f u w r) [
+      | inl a ↦ i (above-test t u w .1 (above-over (standing-levels S) u w (A u w r .1) .0 a))
+      | inr a ↦ j (above-test t w u .1 (above-over (standing-levels S) w u (A u w r .0) .0 a))
+    ]
+  ]
 
   -- The note, by three facts: at most the own level, at most that of each fragment linked but the parent, and one of these.
-  pub low-level : (v : ℕ) → lowest (readLinks (cleared n t) g) v ≤ lev t v
+  low-level : (v : ℕ) → lowest (readLinks t g) v ≤ lev t v
   unfolding lowest
-  low-level v = rw (same-lev read-forest) (omega arith)
+  low-level v = rw (same-lev forest) (omega arith)
 
-  pub low-link : (v w : ℕ) → v < n → T (linked g v w) → w ≢ par t v → lowest (readLinks (cleared n t) g) v ≤ lev t w
+  low-link : (v w : ℕ) → v < n → T (linked g v w) → w ≢ par t v → lowest (readLinks t g) v ≤ lev t w
   unfolding lowest
   low-link v w h r d =
-      let q : lev t v - lev t w ≤ noteOf (readLinks (cleared n t) g) v = rw (same-lev (cleared-forest t n)) at (read-heard .note-link v w h r (rw (same-par (cleared-forest t n)) (λ e. d (sym e)))) in
-      rw (same-lev read-forest) (omega arith)
+      let q : lev t v - lev t w ≤ noteOf (readLinks t g) v = heard .note-link v w h r (λ e. d (sym e)) in
+      rw (same-lev forest) (omega arith)
 
-  pub low-hit : (v : ℕ) → (lowest (readLinks (cleared n t) g) v ≡ lev t v) ⊎ ((w : ℕ) × T (linked g v w) × (w ≢ par t v) × (lowest (readLinks (cleared n t) g) v ≡ lev t w))
+  low-hit : (v : ℕ) → (lowest (readLinks t g) v ≡ lev t v) ⊎ ((w : ℕ) × T (linked g v w) × (w ≢ par t v) × (lowest (readLinks t g) v ≡ lev t w))
   unfolding lowest
-  low-hit v = rw (same-lev read-forest) (elim (read-heard .note-hit v) [
-    | inl e ↦ inl (omega (arith, rested-note (cleared-rested n t) v))
-    | inr (w, r, d, e) ↦
-        let q : noteOf (readLinks (cleared n t) g) v ≡ lev t v - lev t w = rw (same-lev (cleared-forest t n)) at e in
-        elim (decLe (lev t w) (lev t v)) [
-          | yes k ↦ inr (w, r, (λ z. d (rw (same-par (cleared-forest t n)) (sym z))), omega arith)
-          | no k ↦ inl (omega arith)
-        ]
+  low-hit v = rw (same-lev forest) (elim (heard .note-hit v) [
+    | inl e ↦ inl (omega (arith, unnoted-note Z v))
+    | inr (w, r, d, e) ↦ elim (decLe (lev t w) (lev t v)) [
+      | yes k ↦ inr (w, r, (λ z. d (sym z)), omega arith)
+      | no k ↦ inl (omega arith)
+    ]
   ])
 
   -- 'the least of its own level and the levels of fragments linked to it, its parent left out'
-  pub note-exact : (v : ℕ) → v < n → lowest (readLinks (cleared n t) g) v ≡ least (λ w. linked g v w && not (eqb w (par t v))) (lev t) (lev t v) n
-  note-exact v h =
-      let s = readLinks (cleared n t) g in
+  note-least : (v : ℕ) → v < n → lowest (readLinks t g) v ≡ least (λ w. linked g v w && not (eqb w (par t v))) (lev t) (lev t v) n
+  note-least v h =
+      let s = readLinks t g in
       let q : ℕ → Bool = λ w. linked g v w && not (eqb w (par t v)) in
       let down : lowest s v ≤ least q (lev t) (lev t v) n = elim (least-hit q (lev t) (lev t v) n) [
         | inl e ↦ omega (arith, low-level v)
@@ -342,3 +344,24 @@ module _ {n : ℕ} {t : Tables} (S : Standing n t) (g : List Link) (A : Among n 
         | inr (w, r, d, e) ↦ omega (arith, least-le q (lev t) (lev t v) n w (A v w r .1) (and-intro (linked g v w) (not (eqb w (par t v))) r (not-T (eqb w (par t v)) (λ z. d (eqb→eq w (par t v) z)))))
       ] in
       omega arith
+
+  -- What is noted is what the reading rules say of the list.
+  pub read-notes : NotesOf n g (readLinks t g)
+  read-notes = record {
+    standing = standing-same forest (heard .long-note ∙ S .long-note) (heard .long-mark ∙ S .long-mark) S;
+    among = A;
+    notes = rw (same-par forest, same-lev forest) note-least;
+    marks = rw (same-par forest) mark-read;
+    uncrossed = rw (same-par forest) (one-way, uncrossed);
+  }
+
+-- A list read from cleared notes leaves the forest as it was, and its own notes.
+module _ {n : ℕ} {t : Tables} (S : Standing n t) (g : List Link) (A : Among n (linked g)) where
+  pub read-forest : SameForest (readLinks (cleared n t) g) t
+  read-forest = forest-trans (forest (standing-cleared S) (cleared-unnoted n t) g A) (cleared-forest t n)
+
+  pub cleared-notes : NotesOf n g (readLinks (cleared n t) g)
+  cleared-notes = read-notes (standing-cleared S) (cleared-unnoted n t) g A
+
+  pub note-exact : (v : ℕ) → v < n → lowest (readLinks (cleared n t) g) v ≡ least (λ w. linked g v w && not (eqb w (par t v))) (lev t) (lev t v) n
+  note-exact = rw (same-par read-forest, same-lev read-forest) at (cleared-notes .notes)

@@ -7,8 +7,7 @@ use native.Mathlib.Omega.{arith}
 use native.Mathlib.Decide.{ℕ-discrete, decLe, decLt}
 use lib.Dec.{T}
 use Rattle.rules.specs.Links.{Links, Among, Joined, here, step, JoinedBy}
-use Rattle.rules.specs.Forest.{up}
-use Rattle.rules.specs.Laws.Facts.{Levels, Over}
+use Rattle.rules.specs.Forest.{up, Levels, Over}
 use Rattle.rules.specs.Laws.Chain.{join, one, back, carry, wider}
 use Rattle.rules.specs.Laws.Up.{up-add, over-dec, par-in, par-lev, root-lev, child-lev, over-refl, over-lev, over-same, up-over, over-meet, over-trans, over-par, over-par-of, over-up, over-child}
 

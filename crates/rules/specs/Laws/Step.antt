@@ -15,7 +15,7 @@ use Rattle.base.specs.Truth.{and-l, T-dec, T-true, T-false}
 use Rattle.rules.specs.Links.{Link, between, linked, Among}
 use Rattle.rules.specs.Tables.{Tables, rank, noteOf, placed, putNote, putMark, putHeld}
 use Rattle.rules.specs.Building.{pieces, sizeOf, heldIn, better, noteLink, hold, fill, holdLink, buildLink, buildLinks}
-use Rattle.rules.specs.Laws.Facts.{Standing, Rested, Loose, Holding, Underway}
+use Rattle.rules.specs.Facts.{Standing, Rested, Loose, Holding, Underway}
 use Rattle.rules.specs.Laws.Partial.{label}
 use Rattle.rules.specs.Laws.Links.{between-here, between-turn, linked-nil, linked-turn, snoc-cases, linked-head, linked-tail}
 use Rattle.rules.specs.Laws.Tables.{placed-loose, placed-or-loose, noteOf-putNote-same, noteOf-putNote-other, standing-same, putNote-forest, putMark-forest, putHeld-forest, putNote-length, putMark-length, rested-note}

@@ -13,7 +13,8 @@ use lib.Seq.{getD-set-same, getD-set-other}
 use Rattle.base.specs.Truth.{T-true, T-false}
 use Rattle.rules.specs.Links.{Link}
 use Rattle.rules.specs.Tables.{Tables, parentOf, rank, noteOf, markOf, placed, par, lev, fresh, place, putNote, putMark, putHeld, putCrossed, cleared}
-use Rattle.rules.specs.Laws.Facts.{Levels, Standing, Loose, Rested}
+use Rattle.rules.specs.Forest.{Levels}
+use Rattle.rules.specs.Facts.{Standing, Loose, Rested, Unnoted}
 use Rattle.rules.specs.Laws.Up.{level-below}
 
 -- What is read of one fragment.
@@ -234,13 +235,26 @@ pub fresh-rested : (n : ℕ) → Rested n (fresh n)
 unfolding fresh
 fresh-rested n = record { no-note = refl; no-mark = refl; no-held = refl; no-cross = refl }
 
-pub rested-note : {n : ℕ} {t : Tables} → Rested n t → (v : ℕ) → noteOf t v ≡ 0
+-- What rests has no note.
+pub rested-unnoted : {n : ℕ} {t : Tables} → Rested n t → Unnoted n t
+rested-unnoted r = record { no-note = r .no-note; no-mark = r .no-mark; no-cross = r .no-cross }
+
+pub cleared-unnoted : (n : ℕ) (t : Tables) → Unnoted n (cleared n t)
+cleared-unnoted n t = rested-unnoted (cleared-rested n t)
+
+pub unnoted-note : {n : ℕ} {t : Tables} → Unnoted n t → (v : ℕ) → noteOf t v ≡ 0
 unfolding noteOf
-rested-note {n} r v = ap (λ (x : List ℕ). getD x v 0) (r .no-note) ∙ getD-zeros n v
+unnoted-note {n} r v = ap (λ (x : List ℕ). getD x v 0) (r .no-note) ∙ getD-zeros n v
+
+pub unnoted-mark : {n : ℕ} {t : Tables} → Unnoted n t → (v : ℕ) → markOf t v ≡ 0
+unfolding markOf
+unnoted-mark {n} r v = ap (λ (x : List ℕ). getD x v 0) (r .no-mark) ∙ getD-zeros n v
+
+pub rested-note : {n : ℕ} {t : Tables} → Rested n t → (v : ℕ) → noteOf t v ≡ 0
+rested-note r = unnoted-note (rested-unnoted r)
 
 pub rested-mark : {n : ℕ} {t : Tables} → Rested n t → (v : ℕ) → markOf t v ≡ 0
-unfolding markOf
-rested-mark {n} r v = ap (λ (x : List ℕ). getD x v 0) (r .no-mark) ∙ getD-zeros n v
+rested-mark r = unnoted-mark (rested-unnoted r)
 
 pub fresh-loose : (n v : ℕ) → Loose (fresh n) v
 unfolding fresh rank

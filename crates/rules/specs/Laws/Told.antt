@@ -11,18 +11,19 @@ use lib.ListN.{length, getD, length-set}
 use lib.Seq.{append-snoc}
 use lib.Dec.{T, ltb, ltb→lt, lt→ltb}
 use Rattle.base.specs.Truth.{and-intro, and-l, and-r, T-ext}
-use Rattle.rules.specs.Links.{Link, Links, between, linked, tally, JoinedBy, Among}
+use Rattle.rules.specs.Links.{Link, Links, between, linked, tally, JoinedBy, Among, Inside}
 use Rattle.rules.specs.Search.{count}
 use Rattle.rules.specs.Tables.{Tables, rank, noteOf, markOf, placed, putNote, putMark, putHeld}
 use Rattle.rules.specs.Building.{merged, pieces, member, sizeOf, heldIn, noteLink, hold, buildLink, buildLinks, lost}
-use Rattle.rules.specs.Laws.Facts.{Standing, Rested, Loose, Holding, Crowded, Told}
+use Rattle.rules.specs.Facts.{Standing, Rested, Loose, Holding}
+use Rattle.rules.specs.Laws.Facts.{Crowded, Told}
 use Rattle.rules.specs.Laws.Partial.{label}
 use Rattle.rules.specs.Laws.Chain.{one, wider}
 use Rattle.rules.specs.Laws.Search.{some-intro, some-elim, count-same}
 use Rattle.rules.specs.Laws.Links.{between-here, between-turn, between-elim, linked-nil, linked-turn, append-left, snoc-cases, snoc-last, joined-turn, linked-head, linked-tail}
 use Rattle.rules.specs.Laws.Tables.{placed-loose, markOf-putMark-same, markOf-putMark-other, rested-note, rested-mark}
 use Rattle.rules.specs.Laws.Split.{count-two, tally-snoc, tally-same, by-between, between-both, between-flip, between-swap}
-use Rattle.rules.specs.Laws.Pieces.{Inside, merged-keeps, pieces-snoc, member-intro, member-elim, linked-label, label-in, label-own, label-joins}
+use Rattle.rules.specs.Laws.Pieces.{merged-keeps, pieces-snoc, member-intro, member-elim, linked-label, label-in, label-own, label-joins}
 use Rattle.rules.specs.Laws.Quota.{sorted}
 use Rattle.rules.specs.Laws.Step.{Step, skips, notes, holds, marks, link-step, holding-step, note-best-step, note-other, note-cases, rested-holding}
 

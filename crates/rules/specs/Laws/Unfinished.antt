@@ -13,7 +13,8 @@ use Rattle.rules.specs.Links.{Links, linked, Among, JoinedBy}
 use Rattle.rules.specs.Search.{count}
 use Rattle.rules.specs.Tables.{Tables, placed}
 use Rattle.rules.specs.Building.{pieces, member, lost, placeWalk, placePiece, placeFrom, placePieces}
-use Rattle.rules.specs.Laws.Facts.{Standing, Loose, Holding, Crowded, Told, Ready, Walked}
+use Rattle.rules.specs.Facts.{Standing, Loose, Holding, Ready, Walked}
+use Rattle.rules.specs.Laws.Facts.{Crowded, Told}
 use Rattle.rules.specs.Laws.Search.{count-mono}
 use Rattle.rules.specs.Laws.Tables.{placed-rank, rank-placed, placed-loose}
 use Rattle.rules.specs.Laws.Pieces.{member-elim, member-intro}

@@ -8,10 +8,9 @@ use lib.Dec.{eqb, eqb→eq}
 use Rattle.base.specs.Truth.{T-ext, eq→eqb}
 use native.Mathlib.Omega.{arith}
 use native.Mathlib.Decide.{ℕ-discrete, decLe}
-use Rattle.rules.specs.Forest.{up, Above}
+use Rattle.rules.specs.Forest.{up, Above, Levels, Over}
 use Rattle.rules.specs.Search.{count}
 use Rattle.rules.specs.Laws.Search.{count-le, count-one-more, some-count}
-use Rattle.rules.specs.Laws.Facts.{Levels, Over}
 
 module _ (p : ℕ → ℕ) where
   pub up-zero : (v : ℕ) → up p 0 v ≡ v

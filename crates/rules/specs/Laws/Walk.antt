@@ -12,11 +12,11 @@ use borrow.Author.Tests.{lt-ltb, le-ltb, eq-eqb, ne-eqb}
 use Rattle.base.specs.Pick.{pick, pick-true, pick-false}
 use Rattle.base.specs.Truth.{T-dec, and-l, and-r, and-intro}
 use Rattle.rules.specs.Links.{Link, linked, JoinedBy, here}
-use Rattle.rules.specs.Forest.{up}
+use Rattle.rules.specs.Forest.{up, Over}
 use Rattle.rules.specs.Search.{count}
 use Rattle.rules.specs.Tables.{Tables, parentOf, rank, placed, par, lev, place}
 use Rattle.rules.specs.Building.{Walk, nextOf, reachNext, goBack, walkStep, walkSteps, walked}
-use Rattle.rules.specs.Laws.Facts.{Over, Standing, Loose, Ready, Walked}
+use Rattle.rules.specs.Facts.{Standing, Loose, Ready, Walked}
 use Rattle.rules.specs.Laws.Chain.{join, one, carry}
 use Rattle.rules.specs.Laws.Links.{linked-turn}
 use Rattle.rules.specs.Laws.Up.{over-refl, over-up, over-down, over-antisym}
