@@ -32,3 +32,4 @@ pub mod Reports
 pub mod Adopting
 pub mod Append
 pub mod MetReading
+pub mod Method

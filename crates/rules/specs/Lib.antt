@@ -7,6 +7,7 @@ pub mod Building
 pub mod Adopting
 pub mod Reading
 pub mod Facts
+pub mod Method
 pub mod Known
 pub mod Laws
 pub mod Theorems

@@ -16,6 +16,7 @@ use Rattle.rules.specs.Tables.{Tables, markOf, placed, par, lev, fresh, 
 use Rattle.rules.specs.Building.{pieces, member, walked, buildLinks, done, pass, passes, ceiling, lowerCeiling}
 use Rattle.rules.specs.Reading.{readLinks, accepted, lowest, sole, cut, piece}
 use Rattle.rules.specs.Facts.{Standing, Unnoted, Rested, Loose, Holding, Underway, Ready, Walked, Partial, NotesOf, SameReports}
+use Rattle.rules.specs.Method.{Method, after, Owes, firstMethod}
 use Rattle.rules.specs.Laws.Walk.{walk}
 use Rattle.rules.specs.Laws.Step.{list-kept}
 use Rattle.rules.specs.Laws.Quota.{held-most}
@@ -24,6 +25,7 @@ use Rattle.rules.specs.Laws.Reading.{read-notes, note-exact}
 use Rattle.rules.specs.Laws.Passes.{fresh-partial, pass-keeps, pass-grows, pass-finishes, result}
 use Rattle.rules.specs.Laws.Ceiling.{unfinished-places, within-ceiling, within-lower}
 use Rattle.rules.specs.Laws.Reports.{accepts, noted-sole, noted-cut, noted-piece, noted-reports, reading-exact, sole-exact, cut-exact, piece-exact, equal-reports}
+use Rattle.rules.specs.Laws.Method.{forest-accepted, forests-agree, method-stands, method-accepted, first-passes, first-owes}
 
 -- 1. Every pass keeps the invariant: what stands is part of a depth-first forest of the set, and each unplaced part hangs on one way to the root
 -- (record Partial). It is kept by a pass that tells the set in any order and with any repeats,
@@ -121,3 +123,25 @@ held-links-kept n k t g among U = list-kept g among U
 -- so at most k·n less the number of pieces, counted among the unplaced fragments.
 pub held-links-most : (n k : ℕ) (t : Tables) → Holding n k t → length (t .held) + count (λ v. not (placed t v) && member (pieces n (t .held)) v v) n ≤ k * count (λ v. not (placed t v)) n
 held-links-most = held-most
+
+-- 9. What follows building rests on 'a depth-first forest of the set', by whatever method it was built: a pass that tells the set is accepted (and
+-- then 6 holds of it), and any two such forests report alike.
+module _ (n : ℕ) (E : Links) (among : Among n E) where
+  pub forest-accepts : (t : Tables) (g : List Link) → Standing n t → DepthFirst n (par t) E → Tells E g → T (accepted n (readLinks (cleared n t) g))
+  forest-accepts t g S D = forest-accepted among S D g
+
+  pub forests-equal : (s t : Tables) (g h : List Link) → Standing n s → Standing n t → DepthFirst n (par s) E → DepthFirst n (par t) E → Tells E g → Tells E h → SameReports n (readLinks (cleared n s) g) (readLinks (cleared n t) h)
+  forests-equal s t g h S Z C D = forests-agree among S Z C D g h
+
+-- So of every method that keeps what a method owes (record Owes in Method.antt), where every pass told the set and nothing is unplaced: what it
+-- built stands, and a pass that tells the set is accepted. (P1: Laws.Met.met-done.)
+pub method-reads : {S : Type 0} (n : ℕ) (M : Method S) (Sound : S → Type 0) → Owes n M Sound → (E : Links) → Among n E → (gs : List (List Link)) → Each (Tells E) gs → T (done n (M .forest (after M gs))) → Standing n (M .forest (after M gs)) × ((g : List Link) → Tells E g → T (accepted n (readLinks (cleared n (M .forest (after M gs))) g)))
+method-reads n M Sound O E among gs tells d = (method-stands O E among gs tells, method-accepted O E among gs tells d)
+
+-- B1 to B6 are such a method: what they keep at every moment is Underway.
+pub first-method : (n k : ℕ) → 1 ≤ k → Owes n (firstMethod n k) (Underway n k)
+first-method = first-owes
+
+pub first-method-passes : (n k : ℕ) (gs : List (List Link)) → after (firstMethod n k) gs ≡ passes n k (fresh n) gs
+unfolding firstMethod
+first-method-passes n k gs = first-passes n k (fresh n) gs

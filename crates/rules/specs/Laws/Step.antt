@@ -18,7 +18,7 @@ use Rattle.rules.specs.Building.{pieces, sizeOf, heldIn, better, noteLin
 use Rattle.rules.specs.Facts.{Standing, Rested, Loose, Holding, Underway}
 use Rattle.rules.specs.Laws.Partial.{label}
 use Rattle.rules.specs.Laws.Links.{between-here, between-turn, linked-nil, linked-turn, snoc-cases, linked-head, linked-tail}
-use Rattle.rules.specs.Laws.Tables.{placed-loose, placed-or-loose, noteOf-putNote-same, noteOf-putNote-other, standing-same, putNote-forest, putMark-forest, putHeld-forest, putNote-length, putMark-length, rested-note}
+use Rattle.rules.specs.Laws.Tables.{SameForest, forest-refl, placed-loose, placed-or-loose, noteOf-putNote-same, noteOf-putNote-other, standing-same, putNote-forest, putMark-forest, putHeld-forest, putNote-length, putMark-length, rested-note}
 use Rattle.rules.specs.Laws.Split.{tally-nil, by-between, between-both}
 use Rattle.rules.specs.Laws.Quota.{sorted, Once, Quota, quota-nil, quota-join, quota-fill, once-more}
 
@@ -216,3 +216,11 @@ rested-holding n k t h R = none-holding n k t h (R .no-held)
 
 pub rested-underway : (n k : ℕ) (t : Tables) → 1 ≤ k → Standing n t → Rested n t → Underway n k t
 rested-underway n k t h S R = record { standing = S; holding = rested-holding n k t h R; noting = λ u p e. absurd (omega (arith, rested-note R u)) }
+
+-- A told link places nothing.
+pub step-forest : {n k a b : ℕ} {t t′ : Tables} → Step n k a b t t′ → SameForest t′ t
+unfolding noteLink hold
+step-forest {t = t} (skips s) = forest-refl t
+step-forest {t = t} (notes u p s l q) = putNote-forest t u _
+step-forest {t = t} (holds la lb new r) = putHeld-forest t _
+step-forest {t = t} (marks la lb e f) = putMark-forest t _

@@ -1,0 +1,92 @@
+-- What follows building, by whatever method; and that B1 to B6 keep what a method owes.
+-- Assumes nothing.
+use Prim.Native.Nat.{ℕ, _≤_}
+use mathlib.Core.Path.{_≡_, refl, sym, ap, _∙_, subst}
+use mathlib.Core.Bool.{Bool}
+use mathlib.Core.List.{List, [], _∷_, _++_}
+use lib.ListN.{length}
+use lib.Dec.{T}
+use Rattle.rules.specs.Links.{Link, Links, linked, Among, Tells, Each}
+use Rattle.rules.specs.Forest.{DepthFirst}
+use Rattle.rules.specs.Tables.{Tables, par, fresh, cleared}
+use Rattle.rules.specs.Building.{buildLink, buildLinks, closeBuilding, done, pass, passes, ceiling}
+use Rattle.rules.specs.Reading.{readLinks, accepted}
+use Rattle.rules.specs.Facts.{Standing, Underway, SameReports}
+use Rattle.rules.specs.Method.{Method, tellList, tellPasses, after, Owes, firstMethod}
+use Rattle.rules.specs.Laws.Links.{linked-head, linked-tail, between-here}
+use Rattle.rules.specs.Laws.Tables.{same-placed, fresh-standing, fresh-rested}
+use Rattle.rules.specs.Laws.Step.{link-step, step-forest, building-kept, rested-underway}
+use Rattle.rules.specs.Laws.CloseAny.{close-stands, close-rests}
+use Rattle.rules.specs.Laws.Passes.{result}
+use Rattle.rules.specs.Laws.Ceiling.{within-ceiling}
+use Rattle.rules.specs.Laws.Reports.{reading-exact, equal-reports}
+
+-- A list that tells a set among n.
+among-told : {n : ℕ} {E : Links} → Among n E → (g : List Link) → Tells E g → Among n (linked g)
+among-told A g e u v r = A u v (rw (e u v) at r)
+
+each-among : {n : ℕ} (E : Links) → Among n E → (gs : List (List Link)) → Each (Tells E) gs → Each (λ g. Among n (linked g)) gs
+each-among E A [] e = tt
+each-among E A (g ∷ gs) (e, es) = (among-told A g e, each-among E A gs es)
+
+-- Over a depth-first forest of the set, however it was built.
+module _ {n : ℕ} {E : Links} (A : Among n E) where
+  set-forest : (g : List Link) → Tells E g → (par : ℕ → ℕ) → DepthFirst n par E → DepthFirst n par (linked g)
+  set-forest g e p D = record {
+    inside = D .inside;
+    rooted = D .rooted;
+    tree = λ v h d. rw (e v (p v)) (D .tree v h d);
+    spans = λ u v r. D .spans u v (rw (e u v) at r);
+  }
+
+  pub forest-accepted : {t : Tables} → Standing n t → DepthFirst n (par t) E → (g : List Link) → Tells E g → T (accepted n (readLinks (cleared n t) g))
+  forest-accepted {t} S D g e = reading-exact S g (among-told A g e) .1 (set-forest g e (par t) D)
+
+  pub forests-agree : {s t : Tables} → Standing n s → Standing n t → DepthFirst n (par s) E → DepthFirst n (par t) E → (g h : List Link) → Tells E g → Tells E h → SameReports n (readLinks (cleared n s) g) (readLinks (cleared n t) h)
+  forests-agree S Z C D g h e f = equal-reports S Z g h (among-told A g e) (λ u v. e u v ∙ sym (f u v)) (forest-accepted S C g e) (forest-accepted Z D h f)
+
+-- What a method keeps holds after any passes.
+module _ {S : Type 0} {n : ℕ} {M : Method S} {Sound : S → Type 0} (O : Owes n M Sound) where
+  list-sound : (s : S) (g : List Link) → Among n (linked g) → Sound s → Sound (tellList M s g)
+  unfolding tellList
+  list-sound s [] A h = h
+  list-sound s ((a, b) ∷ g) A h =
+      let (i, j, d) = A a b (linked-head (a, b) g a b (between-here a b)) in
+      list-sound (M .tell s (a, b)) g (λ u v r. A u v (linked-tail (a, b) g u v r)) (O .after-link s a b i j d h)
+
+  pub passes-sound : (s : S) (gs : List (List Link)) → Each (λ g. Among n (linked g)) gs → Sound s → Sound (tellPasses M s gs)
+  unfolding tellPasses
+  passes-sound s [] A h = h
+  passes-sound s (g ∷ gs) (a, A) h = passes-sound (M .close (tellList M s g)) gs A (O .after-close (tellList M s g) (list-sound s g a h))
+
+  -- Passes that told the set.
+  module _ (E : Links) (A : Among n E) (gs : List (List Link)) (tells : Each (Tells E) gs) where
+    pub method-stands : Standing n (M .forest (after M gs))
+    method-stands = O .stands (after M gs) (passes-sound (M .first) gs (each-among E A gs tells) (O .at-first))
+
+    pub method-accepted : T (done n (M .forest (after M gs))) → (g : List Link) → Tells E g → T (accepted n (readLinks (cleared n (M .forest (after M gs))) g))
+    method-accepted d = forest-accepted A method-stands (O .ends E gs A tells d)
+
+-- B1 to B6.
+module _ (n k : ℕ) where
+  first-list : (t : Tables) (g : List Link) → tellList (firstMethod n k) t g ≡ buildLinks n k t g
+  unfolding tellList firstMethod buildLinks
+  first-list t [] = refl
+  first-list t (e ∷ g) = first-list (buildLink n k t e) g
+
+  pub first-passes : (t : Tables) (gs : List (List Link)) → tellPasses (firstMethod n k) t gs ≡ passes n k t gs
+  unfolding tellPasses passes pass firstMethod
+  first-passes t [] = refl
+  first-passes t (g ∷ gs) = ap (λ (s : Tables). tellPasses (firstMethod n k) (closeBuilding n s) gs) (first-list t g) ∙ first-passes (pass n k t g) gs
+
+  pub first-owes : 1 ≤ k → Owes n (firstMethod n k) (Underway n k)
+  unfolding firstMethod
+  first-owes pos = record {
+    at-first = rested-underway n k (fresh n) pos (fresh-standing n) (fresh-rested n);
+    after-link = λ t a b i j d U. building-kept i j d U;
+    after-close = λ t U. rested-underway n k (closeBuilding n t) pos (close-stands U) (close-rests U);
+    stands = λ t U. U .standing;
+    places-nothing = λ t (a, b) v. ap (λ (p : ℕ → Bool). p v) (same-placed (step-forest (link-step n k a b t)));
+    ends = λ E gs A e. subst (λ (t : Tables). T (done n t) → DepthFirst n (par t) E) (sym (first-passes (fresh n) gs)) (result pos A gs e);
+    few = λ E gs g A e f. subst (λ (t : Tables). (T (done n t) → ⊥) → length (gs ++ (g ∷ [])) ≤ ceiling n k) (sym (first-passes (fresh n) gs)) (λ left. within-ceiling n k pos gs (each-among E A gs e) left g);
+  }
