@@ -19,6 +19,10 @@ between (a, b) u v = (eqb a u && eqb b v) || (eqb a v && eqb b u)
 abbrev pub Links : Type 0
 Links = ℕ → ℕ → Bool
 
+-- 'Links have no direction.'
+abbrev pub Undirected : Links → Type 0
+Undirected E = (u v : ℕ) → T (E u v) → T (E v u)
+
 -- The set that a list tells. 'A link that stands twice counts as one link.'
 unfoldable pub linked : List Link → Links
 linked [] u v = false

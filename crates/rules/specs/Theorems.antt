@@ -8,12 +8,13 @@ use mathlib.Core.List.{List, [], _∷_, _++_}
 use mathlib.Core.Logic.{_↔_}
 use lib.ListN.{length, getD}
 use lib.Dec.{T, eqb}
-use Rattle.rules.specs.Links.{Link, Links, linked, Among, SameSet, JoinedBy, Tells, Each, Inside}
-use Rattle.rules.specs.Removal.{Sole, Cut, Piece}
-use Rattle.rules.specs.Forest.{DepthFirst}
+use Rattle.rules.specs.Links.{Link, Links, Undirected, linked, Among, SameSet, JoinedBy, Tells, Each, Inside}
+use Rattle.rules.specs.Removal.{Sole, Cut, PieceIn, Piece}
+use Rattle.rules.specs.Forest.{up, depth, DepthFirst}
 use Rattle.rules.specs.Search.{count, least}
 use Rattle.rules.specs.Tables.{Tables, markOf, placed, par, lev, fresh, cleared}
 use Rattle.rules.specs.Building.{pieces, member, walked, buildLinks, done, pass, passes, ceiling, lowerCeiling}
+use Rattle.rules.specs.Adopting.{parentIn, adoptable, adopted}
 use Rattle.rules.specs.Reading.{readLinks, accepted, lowest, sole, cut, piece}
 use Rattle.rules.specs.Facts.{Standing, Unnoted, Rested, Loose, Holding, Underway, Ready, Walked, Partial, NotesOf, SameReports}
 use Rattle.rules.specs.Method.{Method, after, Owes, firstMethod}
@@ -24,8 +25,11 @@ use Rattle.rules.specs.Laws.Pieces.{pieces-joined, label-least}
 use Rattle.rules.specs.Laws.Reading.{read-notes, note-exact}
 use Rattle.rules.specs.Laws.Passes.{fresh-partial, pass-keeps, pass-grows, pass-finishes, result}
 use Rattle.rules.specs.Laws.Ceiling.{unfinished-places, within-ceiling, within-lower}
-use Rattle.rules.specs.Laws.Reports.{accepts, noted-sole, noted-cut, noted-piece, noted-reports, reading-exact, sole-exact, cut-exact, piece-exact, equal-reports}
-use Rattle.rules.specs.Laws.Method.{forest-accepted, forests-agree, method-stands, method-accepted, first-passes, first-owes}
+use Rattle.rules.specs.Laws.Reports.{forest-piece, accepts, noted-sole, noted-cut, noted-piece, noted-reports, reading-exact, sole-exact, cut-exact, piece-exact, equal-reports}
+use Rattle.rules.specs.Laws.Method.{forest-accepted, forests-agree, method-stands, method-accepted, first-passes, first-owes, finished-piece}
+use Rattle.rules.specs.Laws.Up.{level-arrives, level-fewest}
+use Rattle.rules.specs.Laws.Tables.{standing-levels}
+use Rattle.rules.specs.Laws.Adopting.{level-depth, adopted-exact}
 
 -- 1. Every pass keeps the invariant: what stands is part of a depth-first forest of the set, and each unplaced part hangs on one way to the root
 -- (record Partial). It is kept by a pass that tells the set in any order and with any repeats,
@@ -53,6 +57,21 @@ walk-depth-first = walk
 pub finished-forest : (n k : ℕ) (E : Links) (gs : List (List Link)) → 1 ≤ k → Among n E → Each (Tells E) gs → T (done n (passes n k (fresh n) gs)) → DepthFirst n (par (passes n k (fresh n) gs)) E
 finished-forest n k E gs pos among = result pos among gs
 
+-- Its pieces are those of the set, before any reading: the smallest fragment joined with v.
+pub finished-pieces : (n k : ℕ) (E : Links) (gs : List (List Link)) → 1 ≤ k → Among n E → Each (Tells E) gs → T (done n (passes n k (fresh n) gs)) → (v : ℕ) → v < n → PieceIn E v (piece n (passes n k (fresh n) gs) v)
+finished-pieces n k E gs pos among = finished-piece n k pos E among gs
+
+-- So they are in every depth-first forest of a set of links, whatever it notes.
+pub forest-pieces : (n : ℕ) (t : Tables) (E : Links) → Standing n t → Undirected E → Among n E → DepthFirst n (par t) E → (v : ℕ) → v < n → PieceIn E v (piece n t v)
+forest-pieces n t E = forest-piece
+
+-- The level is the number of steps to the root: so many lead there, no fewer do, and counting along the parents gives it.
+pub level-steps : (n : ℕ) (t : Tables) → Standing n t → (v : ℕ) → v < n → (par t (up (par t) (lev t v) v) ≡ up (par t) (lev t v) v) × ((k : ℕ) → par t (up (par t) k v) ≡ up (par t) k v → lev t v ≤ k)
+level-steps n t S v h = (level-arrives (standing-levels S) v h, λ k. level-fewest (standing-levels S) v k h)
+
+pub level-counted : (n : ℕ) (t : Tables) → Standing n t → (v : ℕ) → v < n → lev t v ≡ depth (par t) n v
+level-counted n t S = level-depth (standing-levels S)
+
 -- 4. The ceiling: an unfinished pass places more than k fragments, whatever list it was told; (P1's first pass: Laws.Met.met-unfinished.)
 pub unfinished-pass-places : (n k : ℕ) (t : Tables) (g : List Link) → 1 ≤ k → Standing n t → Rested n t → Among n (linked g) → (T (done n (pass n k t g)) → ⊥) → count (placed t) n + suc k ≤ count (placed (pass n k t g)) n
 unfinished-pass-places n k t g pos S R among = unfinished-places pos S R g among
@@ -69,10 +88,15 @@ reading-notes n t g S Z = read-notes S Z g
 pub notes-accept : (n : ℕ) (t : Tables) (g : List Link) → NotesOf n g t → T (accepted n t) ↔ DepthFirst n (par t) (linked g)
 notes-accept n t g = accepts
 
--- So the reading rules accept exactly the lists of which the table is a depth-first forest, for every table of parents, adopted ones too.
+-- So the reading rules accept exactly the lists of which the table is a depth-first forest, for every table that stands.
 -- (P1's parents: Laws.MetReading; P8 and P9 are refused.)
 pub reading-accepts : (n : ℕ) (t : Tables) (g : List Link) → Standing n t → Among n (linked g) → T (accepted n (readLinks (cleared n t) g)) ↔ DepthFirst n (par t) (linked g)
 reading-accepts n t g S among = reading-exact S g among
+
+-- A table of parents is adopted, and its reading accepted, exactly where it is a depth-first forest of the list read. (Yes: Laws.MetReading.met-adopted.
+-- No, by reading: P8, P9; by adopting: P10.)
+pub adopting-accepts : (n : ℕ) (ps : List ℕ) (g : List Link) → n ≤ length ps → Among n (linked g) → (T (adoptable n ps) × T (accepted n (readLinks (adopted n ps) g))) ↔ DepthFirst n (parentIn ps) (linked g)
+adopting-accepts = adopted-exact
 
 -- What the reading rules note is what they say: 'the least of its own level and the levels of fragments linked to it, its parent left out'.
 pub note-least : (n : ℕ) (t : Tables) (g : List Link) → Standing n t → Among n (linked g) → (v : ℕ) → v < n → lowest (readLinks (cleared n t) g) v ≡ least (λ w. linked g v w && not (eqb w (par t v))) (lev t) (lev t v) n

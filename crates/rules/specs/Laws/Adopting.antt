@@ -12,14 +12,19 @@ use lib.ListN.{length, length-replicate}
 use lib.Seq.{getD-take, length-take-le}
 use borrow.Author.Tests.{eq-eqb, ne-eqb}
 use Rattle.base.specs.Truth.{and-intro, and-l, and-r, eq→eqb}
-use Rattle.rules.specs.Forest.{up, depth, Levels}
+use Rattle.rules.specs.Links.{Link, linked, Among}
+use Rattle.rules.specs.Forest.{up, depth, Levels, DepthFirst}
 use Rattle.rules.specs.Search.{every}
 use Rattle.rules.specs.Tables.{parentOf, rank, placed, par}
 use Rattle.rules.specs.Adopting.{parentIn, rootedIn, adoptable, adopted}
-use Rattle.rules.specs.Facts.{Standing, Rested}
+use Rattle.rules.specs.Reading.{readLinks, accepted}
+use Rattle.rules.specs.Facts.{Standing, Rested, Unnoted}
 use Rattle.rules.specs.Laws.Search.{every-at, every-intro, below-suc, table-length, table-at}
-use Rattle.rules.specs.Laws.Up.{up-zero, up-suc, up-add, up-rest, up-in, up-lev, root-par, level-below}
-use Rattle.rules.specs.Laws.Tables.{rank-placed, par-placed}
+use Rattle.rules.specs.Laws.Up.{up-zero, up-suc, up-add, up-rest, par-in, up-in, up-lev, root-par, level-arrives, level-below, levels-unique}
+use Rattle.rules.specs.Laws.Tables.{rank-placed, par-placed, same-par, rested-unnoted}
+use Rattle.rules.specs.Laws.Append.{depth-first-same}
+use Rattle.rules.specs.Laws.Reading.{read-same, read-notes}
+use Rattle.rules.specs.Laws.Reports.{accepts}
 
 -- Levels counted along parents that lead to a root within k steps.
 module _ (p : ℕ → ℕ) where
@@ -70,6 +75,10 @@ module _ (n : ℕ) (p : ℕ → ℕ) (inside : (v : ℕ) → v < n → p v < n) 
   rooted-soon v h =
       let (l, L) = rooted-levels in
       root-par L (up p n v) (up-in L n v h) (omega (arith, up-lev L n v h, level-below L v h))
+
+-- Levels are counted along the parents.
+pub level-depth : {n : ℕ} {p l : ℕ → ℕ} → Levels n p l → (v : ℕ) → v < n → l v ≡ depth p n v
+level-depth {n} {p} {l} L v h = levels-unique L (depth-levels p n n (par-in L) (rooted-soon n p (par-in L) (λ w g. (l w, level-arrives L w g)))) v h
 
 -- Refusal 10 is given exactly when a parent is n or more, or a way leads to no root.
 pub adoptable-exact : (n : ℕ) (ps : List ℕ) → T (adoptable n ps) ↔ (((v : ℕ) → v < n → parentIn ps v < n) × ((v : ℕ) → v < n → (k : ℕ) × (parentIn ps (up (parentIn ps) k v) ≡ up (parentIn ps) k v)))
@@ -124,3 +133,25 @@ module _ (n : ℕ) (ps : List ℕ) where
       | inr (i, z) ↦ inr (rw (adopted-parent v g) (i, adopted-placed (parentIn ps v) i, adopted-rank v g ∙ ap suc (z ∙ sym (adopted-rank (parentIn ps v) i))))
     ];
   }
+
+-- Adopted, and read: both are accepted exactly where the parents are a depth-first forest of the list.
+module _ (n : ℕ) (ps : List ℕ) (g : List Link) (long : n ≤ length ps) (A : Among n (linked g)) where
+  module _ (q : T (adoptable n ps)) where
+    stands : Standing n (adopted n ps)
+    stands = adopted-stands n ps long q
+
+    unnoted : Unnoted n (adopted n ps)
+    unnoted = rested-unnoted (adopted-rested n ps)
+
+    adopted-reads : T (accepted n (readLinks (adopted n ps) g)) ↔ DepthFirst n (par (adopted n ps)) (linked g)
+    adopted-reads = rw (same-par (read-same stands unnoted g A)) at (accepts (read-notes stands unnoted g A))
+
+  pub adopted-exact : (T (adoptable n ps) × T (accepted n (readLinks (adopted n ps) g))) ↔ DepthFirst n (parentIn ps) (linked g)
+  adopted-exact = (
+    (λ (q, r).
+        let D = adopted-reads q .0 r in
+        depth-first-same n (par (adopted n ps)) (parentIn ps) (adopted-par n ps) (D .inside) (linked g) A D),
+    (λ D.
+        let q = adoptable-exact n ps .1 (D .inside, D .rooted) in
+        (q, adopted-reads q .1 (depth-first-same n (parentIn ps) (par (adopted n ps)) (λ v h. sym (adopted-par n ps v h)) (D .inside) (linked g) A D))),
+  )

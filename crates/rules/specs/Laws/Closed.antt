@@ -10,7 +10,7 @@ use lib.Dec.{T}
 use native.Mathlib.Decide.{ℕ-discrete}
 use Rattle.base.specs.Truth.{T-dec}
 use Rattle.rules.specs.Links.{Links, Among, Joined}
-use Rattle.rules.specs.Forest.{up, DepthFirst, Over}
+use Rattle.rules.specs.Forest.{DepthFirst, Over}
 use Rattle.rules.specs.Search.{count}
 use Rattle.rules.specs.Tables.{Tables, rank, placed, par, lev}
 use Rattle.rules.specs.Building.{pieces, lost, done}
@@ -18,7 +18,7 @@ use Rattle.rules.specs.Facts.{Standing, Loose, OneWay, Free, Partial}
 use Rattle.rules.specs.Laws.Facts.{Learnt}
 use Rattle.rules.specs.Laws.Chain.{carry, wider}
 use Rattle.rules.specs.Laws.Search.{every-at, count-mono, count-yes, count-no}
-use Rattle.rules.specs.Laws.Up.{par-in, up-in, up-lev, root-par, over-refl, over-lev, over-same, over-trans}
+use Rattle.rules.specs.Laws.Up.{par-in, level-arrives, over-refl, over-lev, over-same, over-trans}
 use Rattle.rules.specs.Laws.Tables.{placed-loose, placed-or-loose, lev-rank, standing-levels}
 use Rattle.rules.specs.Laws.Kept.{kept-placed, kept-par, over-kept}
 use Rattle.rules.specs.Laws.Partial.{Of, label, Treated, Closing}
@@ -165,7 +165,7 @@ whole-forest {n} {E} {t} A P d =
     let L = standing-levels (P .standing) in
     record {
       inside = λ v h. par-in L v h;
-      rooted = λ v h. (lev t v, root-par L (up (par t) (lev t v) v) (up-in L (lev t v) v h) (omega (arith, up-lev L (lev t v) v h)));
+      rooted = λ v h. (lev t v, level-arrives L v h);
       tree = λ v h e. P .tree v (every-at (placed t) n d v h) e;
       spans = λ u v e. let (h, g, _) = A u v e in elim (P .spans u v e (every-at (placed t) n d u h) (every-at (placed t) n d v g)) [
         | inl o ↦ inl (lev t v - lev t u, o)

@@ -1,25 +1,28 @@
 -- What follows building, by whatever method; and that B1 to B6 keep what a method owes.
 -- Assumes nothing.
-use Prim.Native.Nat.{ℕ, _≤_}
+use Prim.Native.Nat.{ℕ, _≤_, _<_}
 use mathlib.Core.Path.{_≡_, refl, sym, ap, _∙_, subst}
 use mathlib.Core.Bool.{Bool}
 use mathlib.Core.List.{List, [], _∷_, _++_}
 use lib.ListN.{length}
 use lib.Dec.{T}
-use Rattle.rules.specs.Links.{Link, Links, linked, Among, Tells, Each}
+use Rattle.rules.specs.Links.{Link, Links, Undirected, linked, Among, Tells, Each}
 use Rattle.rules.specs.Forest.{DepthFirst}
-use Rattle.rules.specs.Tables.{Tables, par, fresh, cleared}
+use Rattle.rules.specs.Tables.{Tables, placed, par, fresh, cleared}
 use Rattle.rules.specs.Building.{buildLink, buildLinks, closeBuilding, done, pass, passes, ceiling}
-use Rattle.rules.specs.Reading.{readLinks, accepted}
+use Rattle.rules.specs.Reading.{readLinks, accepted, piece}
+use Rattle.rules.specs.Removal.{PieceIn}
 use Rattle.rules.specs.Facts.{Standing, Underway, SameReports}
 use Rattle.rules.specs.Method.{Method, tellList, tellPasses, after, Owes, firstMethod}
-use Rattle.rules.specs.Laws.Links.{linked-head, linked-tail, between-here}
-use Rattle.rules.specs.Laws.Tables.{same-placed, fresh-standing, fresh-rested}
+use Rattle.rules.specs.Laws.Links.{linked-turn, linked-head, linked-tail, between-here}
+use Rattle.rules.specs.Laws.Search.{every-at}
+use Rattle.rules.specs.Laws.Tables.{same-placed, placed-loose, fresh-loose, fresh-standing, fresh-rested}
 use Rattle.rules.specs.Laws.Step.{link-step, step-forest, building-kept, rested-underway}
 use Rattle.rules.specs.Laws.CloseAny.{close-stands, close-rests}
 use Rattle.rules.specs.Laws.Passes.{result}
 use Rattle.rules.specs.Laws.Ceiling.{within-ceiling}
-use Rattle.rules.specs.Laws.Reports.{reading-exact, equal-reports}
+use Rattle.rules.specs.Laws.Append.{passes-stand}
+use Rattle.rules.specs.Laws.Reports.{reading-exact, equal-reports, forest-piece}
 
 -- A list that tells a set among n.
 among-told : {n : ℕ} {E : Links} → Among n E → (g : List Link) → Tells E g → Among n (linked g)
@@ -90,3 +93,14 @@ module _ (n k : ℕ) where
     ends = λ E gs A e. subst (λ (t : Tables). T (done n t) → DepthFirst n (par t) E) (sym (first-passes (fresh n) gs)) (result pos A gs e);
     few = λ E gs g A e f. subst (λ (t : Tables). (T (done n t) → ⊥) → length (gs ++ (g ∷ [])) ≤ ceiling n k) (sym (first-passes (fresh n) gs)) (λ left. within-ceiling n k pos gs (each-among E A gs e) left g);
   }
+
+-- The piece in a finished forest, before any reading.
+told-undirected : (E : Links) (g : List Link) → Tells E g → Undirected E
+told-undirected E g e u v r = rw (e v u) at (linked-turn g u v (rw (e u v) r))
+
+pub finished-piece : (n k : ℕ) → 1 ≤ k → (E : Links) → Among n E → (gs : List (List Link)) → Each (Tells E) gs → T (done n (passes n k (fresh n) gs)) → (v : ℕ) → v < n → PieceIn E v (piece n (passes n k (fresh n) gs) v)
+unfolding done
+finished-piece n k pos E A [] e d v h = absurd (placed-loose (fresh n) v (every-at (placed (fresh n)) n (unfold passes in d) v h) (fresh-loose n v))
+finished-piece n k pos E A (g ∷ gs) (e, es) d v h =
+    let S = passes-stand pos (fresh n) (g ∷ gs) (fresh-standing n) (fresh-rested n) (each-among E A (g ∷ gs) (e, es)) .0 in
+    forest-piece S (told-undirected E g e) A (result pos A (g ∷ gs) (e, es) d) v h

@@ -280,8 +280,8 @@ module _ {n : ℕ} {t : Tables} (S : Standing n t) (Z : Unnoted n t) (g : List L
   crosses : Crosses (λ x y. T (linked g x y)) t (readLinks t g)
   crosses = crosses-links g t (S .long-note) (S .long-mark) A
 
-  forest : SameForest (readLinks t g) t
-  forest = heard .forest
+  pub read-same : SameForest (readLinks t g) t
+  read-same = heard .forest
 
   -- The mark stands exactly where the parent link was read.
   mark-read : (v : ℕ) → v < n → (0 < markOf (readLinks t g) v) ↔ T (linked g v (par t v))
@@ -312,17 +312,17 @@ module _ {n : ℕ} {t : Tables} (S : Standing n t) (Z : Unnoted n t) (g : List L
   -- The note, by three facts: at most the own level, at most that of each fragment linked but the parent, and one of these.
   low-level : (v : ℕ) → lowest (readLinks t g) v ≤ lev t v
   unfolding lowest
-  low-level v = rw (same-lev forest) (omega arith)
+  low-level v = rw (same-lev read-same) (omega arith)
 
   low-link : (v w : ℕ) → v < n → T (linked g v w) → w ≢ par t v → lowest (readLinks t g) v ≤ lev t w
   unfolding lowest
   low-link v w h r d =
       let q : lev t v - lev t w ≤ noteOf (readLinks t g) v = heard .note-link v w h r (λ e. d (sym e)) in
-      rw (same-lev forest) (omega arith)
+      rw (same-lev read-same) (omega arith)
 
   low-hit : (v : ℕ) → (lowest (readLinks t g) v ≡ lev t v) ⊎ ((w : ℕ) × T (linked g v w) × (w ≢ par t v) × (lowest (readLinks t g) v ≡ lev t w))
   unfolding lowest
-  low-hit v = rw (same-lev forest) (elim (heard .note-hit v) [
+  low-hit v = rw (same-lev read-same) (elim (heard .note-hit v) [
     | inl e ↦ inl (omega (arith, unnoted-note Z v))
     | inr (w, r, d, e) ↦ elim (decLe (lev t w) (lev t v)) [
       | yes k ↦ inr (w, r, (λ z. d (sym z)), omega arith)
@@ -348,17 +348,17 @@ module _ {n : ℕ} {t : Tables} (S : Standing n t) (Z : Unnoted n t) (g : List L
   -- What is noted is what the reading rules say of the list.
   pub read-notes : NotesOf n g (readLinks t g)
   read-notes = record {
-    standing = standing-same forest (heard .long-note ∙ S .long-note) (heard .long-mark ∙ S .long-mark) S;
+    standing = standing-same read-same (heard .long-note ∙ S .long-note) (heard .long-mark ∙ S .long-mark) S;
     among = A;
-    notes = rw (same-par forest, same-lev forest) note-least;
-    marks = rw (same-par forest) mark-read;
-    uncrossed = rw (same-par forest) (one-way, uncrossed);
+    notes = rw (same-par read-same, same-lev read-same) note-least;
+    marks = rw (same-par read-same) mark-read;
+    uncrossed = rw (same-par read-same) (one-way, uncrossed);
   }
 
 -- A list read from cleared notes leaves the forest as it was, and its own notes.
 module _ {n : ℕ} {t : Tables} (S : Standing n t) (g : List Link) (A : Among n (linked g)) where
   pub read-forest : SameForest (readLinks (cleared n t) g) t
-  read-forest = forest-trans (forest (standing-cleared S) (cleared-unnoted n t) g A) (cleared-forest t n)
+  read-forest = forest-trans (read-same (standing-cleared S) (cleared-unnoted n t) g A) (cleared-forest t n)
 
   pub cleared-notes : NotesOf n g (readLinks (cleared n t) g)
   cleared-notes = read-notes (standing-cleared S) (cleared-unnoted n t) g A

@@ -6,7 +6,7 @@ use mathlib.Core.Logic.{_⊎_, inl, inr, _≢_}
 use native.Mathlib.Omega.{arith}
 use native.Mathlib.Decide.{ℕ-discrete, decLe, decLt}
 use lib.Dec.{T}
-use Rattle.rules.specs.Links.{Links, Among, Joined, here, step, JoinedBy}
+use Rattle.rules.specs.Links.{Links, Undirected, Among, Joined, here, step, JoinedBy}
 use Rattle.rules.specs.Forest.{up, Levels, Over}
 use Rattle.rules.specs.Laws.Chain.{join, one, back, carry, wider}
 use Rattle.rules.specs.Laws.Up.{up-add, over-dec, par-in, par-lev, root-lev, child-lev, over-refl, over-lev, over-same, up-over, over-meet, over-trans, over-par, over-par-of, over-up, over-child}
@@ -14,7 +14,7 @@ use Rattle.rules.specs.Laws.Up.{up-add, over-dec, par-in, par-lev, root-
 -- A depth-first forest of a set of links, by levels.
 pub record Spanned (n : ℕ) (p l : ℕ → ℕ) (E : Links) : Type 0 where
   pub levels : Levels n p l
-  pub turn : (u v : ℕ) → T (E u v) → T (E v u)
+  pub turn : Undirected E
   pub among : Among n E
   pub tree : (v : ℕ) → v < n → p v ≢ v → T (E v (p v))
   pub spans : (u v : ℕ) → T (E u v) → Over p l u v ⊎ Over p l v u

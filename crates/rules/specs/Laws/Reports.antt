@@ -11,7 +11,7 @@ use lib.Dec.{T, eqb-refl, eqb, leb, ltb, eqb→eq, leb→le, le→leb, ltb→lt,
 use borrow.Author.Tests.{eq-eqb, ne-eqb}
 use Rattle.base.specs.Pick.{pick-true, pick-false}
 use Rattle.base.specs.Truth.{and-intro, and-l, and-r, or-l, or-r, or-cases, T-dec, T-ext, eq→eqb}
-use Rattle.rules.specs.Links.{Link, Links, Among, SameSet, linked, Joined, step}
+use Rattle.rules.specs.Links.{Link, Links, Undirected, Among, SameSet, linked, Joined, step}
 use Rattle.rules.specs.Forest.{up, DepthFirst, Levels, Over}
 use Rattle.rules.specs.Search.{count, every, first, least}
 use Rattle.rules.specs.Tables.{Tables, markOf, par, lev, cleared}
@@ -22,7 +22,7 @@ pub use Rattle.rules.specs.Facts.{SameReports}
 use Rattle.rules.specs.Laws.Chain.{one}
 use Rattle.rules.specs.Laws.Search.{some-intro, some-elim, every-at, every-intro, first-passes, first-below, least-default, least-le, least-hit, count-two, two-count}
 use Rattle.rules.specs.Laws.Links.{linked-turn}
-use Rattle.rules.specs.Laws.Up.{above-over, over-refl, over-lev, par-in, root-par, up-in, up-lev}
+use Rattle.rules.specs.Laws.Up.{above-over, over-refl, over-lev, par-in, level-arrives}
 use Rattle.rules.specs.Laws.Tables.{same-par, standing-levels}
 use Rattle.rules.specs.Laws.Removal.{Spanned, Reaches, Other, stay, lone, root-whole, root-parts, inner-whole, inner-parts, joined-root, root-joined}
 use Rattle.rules.specs.Laws.Without.{chain-link, chain-fragment, sole-turn, set-sole, set-cut, set-piece}
@@ -60,7 +60,7 @@ child-facts t v c =
     )
 
 -- A depth-first forest with its levels.
-pub depth-spanned : {n : ℕ} {p l : ℕ → ℕ} {E : Links} → Levels n p l → ((u v : ℕ) → T (E u v) → T (E v u)) → Among n E → DepthFirst n p E → Spanned n p l E
+depth-spanned : {n : ℕ} {p l : ℕ → ℕ} {E : Links} → Levels n p l → Undirected E → Among n E → DepthFirst n p E → Spanned n p l E
 depth-spanned L s A D = record {
   levels = L;
   turn = s;
@@ -82,7 +82,7 @@ module _ {n : ℕ} {g : List Link} {t : Tables} (N : NotesOf n g t) where
       let (f, c) = accepted-facts n t .0 q in
       record {
         inside = par-in L;
-        rooted = λ v h. (lev t v, root-par L (up (par t) (lev t v) v) (up-in L (lev t v) v h) (omega (arith, up-lev L (lev t v) v h)));
+        rooted = λ v h. (lev t v, level-arrives L v h);
         tree = λ v h d. elim (c v h) [ inl e ↦ absurd (d e) | inr m ↦ N .marks v h .0 m ];
         spans = N .uncrossed .0 f;
       }
@@ -182,13 +182,16 @@ cut-inner n t v d = rw (ne-eqb (par t v) v d, pick-false) (
     p c = childOf t v c && leb (lev t v) (reach n t c)
 
 -- The piece in a depth-first forest of a set of links, read or not.
-pub spanned-piece : {n : ℕ} {E : Links} (t : Tables) → Spanned n (par t) (lev t) E → (v : ℕ) → v < n → PieceIn E v (piece n t v)
+spanned-piece : {n : ℕ} {E : Links} (t : Tables) → Spanned n (par t) (lev t) E → (v : ℕ) → v < n → PieceIn E v (piece n t v)
 spanned-piece {n} t P v h =
     let (k, e, f) = piece-of-tree n t v h in
     record {
       joined = root-joined P v (piece n t v) h k (sym (root-facts t v) ∙ sym e ∙ root-facts t (piece n t v));
       smallest = λ u j. f u (root-facts t u ∙ sym (joined-root P v u j) ∙ sym (root-facts t v));
     }
+
+pub forest-piece : {n : ℕ} {t : Tables} {E : Links} → Standing n t → Undirected E → Among n E → DepthFirst n (par t) E → (v : ℕ) → v < n → PieceIn E v (piece n t v)
+forest-piece {n} {t} S s A D = spanned-piece t (depth-spanned (standing-levels S) s A D)
 
 -- Where the forest is a depth-first forest of the list as well, the questions answer by removal.
 module _ {n : ℕ} {g : List Link} {t : Tables} (N : NotesOf n g t) (D : DepthFirst n (par t) (linked g)) where

@@ -67,11 +67,18 @@ module _ {n : ℕ} {p l : ℕ → ℕ} (L : Levels n p l) where
   up-lev zero v h = ap l (up-zero p v) ∙ omega arith
   up-lev (suc k) v h = ap l (up-suc p k v) ∙ up-lev k (p v) (par-in v h) ∙ omega (arith, par-lev v h)
 
+  -- The level is the number of steps to the root: so many lead there, and no fewer.
+  pub level-arrives : (v : ℕ) → v < n → p (up p (l v) v) ≡ up p (l v) v
+  level-arrives v h = root-par (up p (l v) v) (up-in (l v) v h) (omega (arith, up-lev (l v) v h))
+
+  pub level-fewest : (v k : ℕ) → v < n → p (up p k v) ≡ up p k v → l v ≤ k
+  level-fewest v k h e = omega (arith, root-lev (up p k v) (up-in k v h) e, up-lev k v h)
+
   -- Past the root nothing changes.
   pub up-past : (k v : ℕ) → v < n → l v ≤ k → up p k v ≡ up p (l v) v
   up-past k v h g =
       ap (λ (i : ℕ). up p i v) (omega arith) ∙ up-add p (l v) (k - l v) v
-      ∙ up-rest p (k - l v) (up p (l v) v) (root-par (up p (l v) v) (up-in (l v) v h) (omega (arith, up-lev (l v) v h)))
+      ∙ up-rest p (k - l v) (up p (l v) v) (level-arrives v h)
 
   pub over-refl : (v : ℕ) → Over p l v v
   over-refl v = ap (λ (i : ℕ). up p i v) (omega arith) ∙ up-zero p v
