@@ -26,7 +26,7 @@ use Rattle.rules.specs.Laws.Reading.{read-notes, note-exact}
 use Rattle.rules.specs.Laws.Passes.{fresh-partial, pass-keeps, pass-grows, pass-finishes, result}
 use Rattle.rules.specs.Laws.Ceiling.{unfinished-places, within-ceiling, within-lower}
 use Rattle.rules.specs.Laws.Reports.{forest-piece, accepts, noted-sole, noted-cut, noted-piece, noted-reports, reading-exact, sole-exact, cut-exact, piece-exact, equal-reports}
-use Rattle.rules.specs.Laws.Method.{forest-accepted, forests-agree, method-stands, method-accepted, first-passes, first-owes, finished-piece}
+use Rattle.rules.specs.Laws.Method.{forest-accepted, forests-agree, method-stands, method-accepted, tell-passes, first-owes, finished-piece}
 use Rattle.rules.specs.Laws.Up.{level-arrives, level-fewest}
 use Rattle.rules.specs.Laws.Tables.{standing-levels}
 use Rattle.rules.specs.Laws.Adopting.{level-depth, adopted-exact}
@@ -168,4 +168,4 @@ first-method = first-owes
 
 pub first-method-passes : (n k : ℕ) (gs : List (List Link)) → after (firstMethod n k) gs ≡ passes n k (fresh n) gs
 unfolding firstMethod
-first-method-passes n k gs = first-passes n k (fresh n) gs
+first-method-passes n k gs = tell-passes n k (fresh n) gs

@@ -15,13 +15,14 @@ use Rattle.rules.specs.Forest.{up}
 use Rattle.rules.specs.Search.{count, some}
 use Rattle.rules.specs.Tables.{Tables, rank, par, lev}
 use Rattle.rules.specs.Facts.{Walked}
+use Rattle.rules.specs.Laws.Split.{tally-none}
 use Rattle.rules.specs.Laws.Facts.{Crowded}
 use Rattle.rules.specs.Laws.Chain.{join}
 use Rattle.rules.specs.Laws.Links.{between-here, between-turn}
 use Rattle.rules.specs.Laws.Search.{some-intro}
 use Rattle.rules.specs.Laws.Up.{up-zero, over-lev}
 use Rattle.rules.specs.Laws.Tables.{lev-rank, standing-levels}
-use Rattle.rules.specs.Laws.Tally.{tally-mono, tally-none, tally-some, sum-most, sum-count}
+use Rattle.rules.specs.Laws.Tally.{tally-mono, tally-some, sum-most, sum-count}
 
 -- The link l goes up from v, by at most d levels, and v is one of the crowd.
 rises : (ℕ → Bool) → (ℕ → ℕ) → ℕ → ℕ → Link → Bool
@@ -42,7 +43,7 @@ module _ (crowd : ℕ → Bool) (p : ℕ → ℕ) (d : ℕ) (g : List Link) (onc
 
   rises-none : (T (crowd v) → ⊥) → tally (rises crowd p d v) g ≡ 0
   unfolding rises
-  rises-none out = omega (arith, tally-mono (rises crowd p d v) (λ l. false) g (λ e _ t. out (and-l (crowd v) _ t)), tally-none g)
+  rises-none out = omega (arith, tally-mono (rises crowd p d v) (λ l. false) g (λ e _ t. out (and-l (crowd v) _ t)), tally-none (λ l. false) g (λ e h f. f))
 
 -- A link to one of the first d fragments above v goes up from v.
 rises-up : (crowd : ℕ → Bool) (p : ℕ → ℕ) (d x v a : ℕ) (l : Link) → T (crowd v) → T (between l v a) → v ≢ a → up p x v ≡ a → x ≤ d → T (rises crowd p d v l)

@@ -72,15 +72,15 @@ module _ {S : Type 0} {n : ℕ} {M : Method S} {Sound : S → Type 0} (O : Owes 
 
 -- B1 to B6.
 module _ (n k : ℕ) where
-  first-list : (t : Tables) (g : List Link) → tellList (firstMethod n k) t g ≡ buildLinks n k t g
+  tell-list : (t : Tables) (g : List Link) → tellList (firstMethod n k) t g ≡ buildLinks n k t g
   unfolding tellList firstMethod buildLinks
-  first-list t [] = refl
-  first-list t (e ∷ g) = first-list (buildLink n k t e) g
+  tell-list t [] = refl
+  tell-list t (e ∷ g) = tell-list (buildLink n k t e) g
 
-  pub first-passes : (t : Tables) (gs : List (List Link)) → tellPasses (firstMethod n k) t gs ≡ passes n k t gs
+  pub tell-passes : (t : Tables) (gs : List (List Link)) → tellPasses (firstMethod n k) t gs ≡ passes n k t gs
   unfolding tellPasses passes pass firstMethod
-  first-passes t [] = refl
-  first-passes t (g ∷ gs) = ap (λ (s : Tables). tellPasses (firstMethod n k) (closeBuilding n s) gs) (first-list t g) ∙ first-passes (pass n k t g) gs
+  tell-passes t [] = refl
+  tell-passes t (g ∷ gs) = ap (λ (s : Tables). tellPasses (firstMethod n k) (closeBuilding n s) gs) (tell-list t g) ∙ tell-passes (pass n k t g) gs
 
   pub first-owes : 1 ≤ k → Owes n (firstMethod n k) (Underway n k)
   unfolding firstMethod
@@ -90,8 +90,8 @@ module _ (n k : ℕ) where
     after-close = λ t U. rested-underway n k (closeBuilding n t) pos (close-stands U) (close-rests U);
     stands = λ t U. U .standing;
     places-nothing = λ t (a, b) v. ap (λ (p : ℕ → Bool). p v) (same-placed (step-forest (link-step n k a b t)));
-    ends = λ E gs A e. subst (λ (t : Tables). T (done n t) → DepthFirst n (par t) E) (sym (first-passes (fresh n) gs)) (result pos A gs e);
-    few = λ E gs g A e f. subst (λ (t : Tables). (T (done n t) → ⊥) → length (gs ++ (g ∷ [])) ≤ ceiling n k) (sym (first-passes (fresh n) gs)) (λ left. within-ceiling n k pos gs (each-among E A gs e) left g);
+    ends = λ E gs A e. subst (λ (t : Tables). T (done n t) → DepthFirst n (par t) E) (sym (tell-passes (fresh n) gs)) (result pos A gs e);
+    few = λ E gs g A e f. subst (λ (t : Tables). (T (done n t) → ⊥) → length (gs ++ (g ∷ [])) ≤ ceiling n k) (sym (tell-passes (fresh n) gs)) (λ left. within-ceiling n k pos gs (each-among E A gs e) left g);
   }
 
 -- The piece in a finished forest, before any reading.

@@ -47,8 +47,6 @@ pub record PathPlaced (n top : ℕ) (s w t : Tables) (deepest : ℕ) : Type 0 wh
   pub same-held : t .held ≡ s .held
   pub same-crossed : t .crossed ≡ s .crossed
   pub decided : (v : ℕ) → OnPath top s w deepest v ⊎ (OnPath top s w deepest v → ⊥)
-  pub on-parent : (v : ℕ) → OnPath top s w deepest v → parentOf t v ≡ parentOf w v
-  pub on-rank : (v : ℕ) → OnPath top s w deepest v → rank t v ≡ rank w v
   pub on-placed : (v : ℕ) → OnPath top s w deepest v → T (placed t v)
   pub off-parent : (v : ℕ) → (OnPath top s w deepest v → ⊥) → parentOf t v ≡ parentOf s v
   pub off-rank : (v : ℕ) → (OnPath top s w deepest v → ⊥) → rank t v ≡ rank s v
@@ -311,8 +309,6 @@ module _ {n top : ℕ} {s t : Tables} (S : Standing n s) (A : Among n (linked (s
       same-held = path-held w steps deepest s;
       same-crossed = path-crossed w steps deepest s;
       decided = decided;
-      on-parent = λ v q. on-alike v q .0;
-      on-rank = λ v q. on-alike v q .1;
       on-placed = on-placed;
       off-parent = λ v f. off-alike v f .0;
       off-rank = λ v f. off-alike v f .1;

@@ -19,8 +19,8 @@ use Rattle.rules.specs.Laws.Partial.{label}
 use Rattle.rules.specs.Laws.Chain.{carry}
 use Rattle.rules.specs.Laws.Tables.{placed-loose, placed-or-loose}
 use Rattle.rules.specs.Building.{merged, pieces, member, sizeOf, heldIn}
-use Rattle.rules.specs.Laws.Split.{bit, bit-yes, bit-no, bit-most, bit-parts, bit-under, count-suc, count-parts, count-some, tally-nil, tally-snoc, tally-parts, tally-same, tally-all, tally-none, by-between, between-flip}
-use Rattle.rules.specs.Laws.Search.{count-same, count-zero, count-le}
+use Rattle.rules.specs.Laws.Split.{bit, bit-yes, bit-no, bit-most, bit-parts, bit-under, count-suc, count-parts, tally-nil, tally-snoc, tally-parts, tally-same, tally-all, tally-none, by-between, between-flip}
+use Rattle.rules.specs.Laws.Search.{count-same, count-zero, count-le, some-count}
 use Rattle.rules.specs.Laws.Links.{linked-turn}
 use Rattle.rules.specs.Laws.Pieces.{merged-larger, merged-other, merged-one, merged-two, merged-inside, merged-keeps, pieces-snoc, member-intro, member-elim, label-in, label-joins, label-own}
 
@@ -105,7 +105,7 @@ pub quota-nil : (n k : ℕ) → 1 ≤ k → Quota n k []
 unfolding heldIn sizeOf
 quota-nil n k h v i =
     let l : List ℕ = pieces n [] in
-    let s : 1 ≤ count (member l (getD l v 0)) n = count-some _ n v i (member-intro l _ v refl) in
+    let s : 1 ≤ count (member l (getD l v 0)) n = some-count _ n v i (member-intro l _ v refl) in
     omega (arith, tally-nil (λ e. member l (getD l v 0) (e .0)), mul-le-mul h s)
 
 module _ (n k a b : ℕ) (held : List Link) (quota : Quota n k held) (ha : a < n) (hb : b < n) where

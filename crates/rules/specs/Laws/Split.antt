@@ -4,14 +4,14 @@ use Prim.Native.Nat.{ℕ, zero, suc, _+_, _<_, _≤_}
 use mathlib.Core.Path.{_≡_, refl, sym, ap, _∙_}
 use mathlib.Core.Bool.{Bool, true, false, cond, _&&_}
 use mathlib.Core.List.{List, [], _∷_, _++_}
-use mathlib.Core.Logic.{_⊎_, inl, inr, _≢_}
+use mathlib.Core.Logic.{_⊎_, inl, inr}
 use native.Mathlib.Omega.{arith}
-use native.Mathlib.Decide.{ℕ-discrete}
 use lib.ListN.{length}
 use lib.Dec.{T}
 use Rattle.rules.specs.Links.{Link, between, linked, tally}
 use Rattle.rules.specs.Search.{count}
 use Rattle.rules.specs.Laws.Search.{count-zero}
+pub use Rattle.rules.specs.Laws.Search.{some-count as count-some}
 use Rattle.rules.specs.Laws.Links.{between-here, between-elim, between-turn, linked-head, linked-tail}
 
 -- A test as a number.
@@ -65,24 +65,6 @@ count-suc p n = elim (p n) as (λ b. cond b (suc (count p n)) (count p n) ≡ co
 pub count-parts : (r p q : ℕ → Bool) (n : ℕ) → ((v : ℕ) → v < n → bit (r v) ≡ bit (p v) + bit (q v)) → count r n ≡ count p n + count q n
 count-parts r p q zero h = omega (arith, count-zero r, count-zero p, count-zero q)
 count-parts r p q (suc n) h = omega (arith, count-suc r n, count-suc p n, count-suc q n, h n (omega arith), count-parts r p q n (λ v l. h v (omega arith)))
-
--- One that passes is counted, and so are two.
-pub count-some : (p : ℕ → Bool) (n v : ℕ) → v < n → T (p v) → 1 ≤ count p n
-count-some p zero v h t = absurd (omega arith)
-count-some p (suc n) v h t = elim (ℕ-discrete v n) [
-  | yes e ↦ omega (arith, count-suc p n, bit-yes (p n) (rw e at t))
-  | no e ↦ omega (arith, count-suc p n, count-some p n v (omega arith) t)
-]
-
-pub count-two : (p : ℕ → Bool) (n u v : ℕ) → u < n → v < n → u ≢ v → T (p u) → T (p v) → 2 ≤ count p n
-count-two p zero u v h i d s t = absurd (omega arith)
-count-two p (suc n) u v h i d s t = elim (ℕ-discrete u n) [
-  | yes e ↦ omega (arith, count-suc p n, bit-yes (p n) (rw e at s), count-some p n v (omega arith) t)
-  | no e ↦ elim (ℕ-discrete v n) [
-    | yes f ↦ omega (arith, count-suc p n, bit-yes (p n) (rw f at t), count-some p n u (omega arith) s)
-    | no f ↦ omega (arith, count-suc p n, count-two p n u v (omega arith) (omega arith) d s t)
-  ]
-]
 
 -- How many entries pass a test, entry by entry.
 pub tally-cons : (p : Link → Bool) (e : Link) (g : List Link) → tally p (e ∷ g) ≡ bit (p e) + tally p g

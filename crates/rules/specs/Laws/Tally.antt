@@ -11,7 +11,7 @@ use Rattle.base.specs.Truth.{T-dec}
 use Rattle.rules.specs.Links.{Link, tally}
 use Rattle.rules.specs.Search.{count, some}
 use Rattle.rules.specs.Laws.Search.{count-yes, count-no}
-use Rattle.rules.specs.Laws.Split.{bit, bit-no, bit-le, tally-cons, tally-nil, Entry, entry-head, entry-tail}
+use Rattle.rules.specs.Laws.Split.{bit, bit-le, tally-cons, tally-nil, Entry, entry-head, entry-tail, tally-none}
 
 -- The sum of the values of the fragments below n.
 unfoldable pub sum : (ℕ → ℕ) → ℕ → ℕ
@@ -23,10 +23,6 @@ pub tally-mono : (p q : Link → Bool) (g : List Link) → ((e : Link) → Entry
 tally-mono p q [] f = omega (arith, tally-nil p, tally-nil q)
 tally-mono p q (x ∷ g) f =
     omega (arith, tally-cons p x g, tally-cons q x g, bit-le (p x) (q x) (f x (entry-head x g)), tally-mono p q g (λ e h. f e (entry-tail x g e h)))
-
-pub tally-none : (g : List Link) → tally (λ l. false) g ≡ 0
-tally-none [] = tally-nil (λ l. false)
-tally-none (x ∷ g) = omega (arith, tally-cons (λ l. false) x g, bit-no false (λ f. f), tally-none g)
 
 bit-or : (a b : Bool) → bit (a || b) ≤ bit a + bit b
 unfolding bit
@@ -40,7 +36,7 @@ tally-or p q (x ∷ g) = omega (arith, tally-cons (λ l. p l || q l) x g, tally-
 -- A union counts at most what its parts count together.
 pub tally-some : (q : ℕ → Link → Bool) (g : List Link) (m : ℕ) → tally (λ l. some (λ i. q i l) m) g ≤ sum (λ i. tally (q i) g) m
 unfolding some sum
-tally-some q g zero = omega (arith, tally-none g)
+tally-some q g zero = omega (arith, tally-none (λ l. false) g (λ e h f. f))
 tally-some q g (suc m) = omega (arith, tally-or (q m) (λ l. some (λ i. q i l) m) g, tally-some q g m)
 
 -- A sum with a bound for each part, and one whose parts are nothing where a test fails.

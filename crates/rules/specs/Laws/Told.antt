@@ -19,10 +19,10 @@ use Rattle.rules.specs.Facts.{Standing, Rested, Loose, Holding}
 use Rattle.rules.specs.Laws.Facts.{Crowded, Told}
 use Rattle.rules.specs.Laws.Partial.{label}
 use Rattle.rules.specs.Laws.Chain.{one, wider}
-use Rattle.rules.specs.Laws.Search.{some-intro, some-elim, count-same}
+use Rattle.rules.specs.Laws.Search.{some-intro, some-elim, count-same, two-count}
 use Rattle.rules.specs.Laws.Links.{between-here, between-turn, between-elim, linked-nil, linked-turn, append-left, snoc-cases, snoc-last, joined-turn, linked-head, linked-tail}
 use Rattle.rules.specs.Laws.Tables.{placed-loose, markOf-putMark-same, markOf-putMark-other, rested-note, rested-mark}
-use Rattle.rules.specs.Laws.Split.{count-two, tally-snoc, tally-same, by-between, between-both, between-flip, between-swap}
+use Rattle.rules.specs.Laws.Split.{tally-snoc, tally-same, by-between, between-both, between-flip, between-swap}
 use Rattle.rules.specs.Laws.Pieces.{merged-keeps, pieces-snoc, member-intro, member-elim, linked-label, label-in, label-own, label-joins}
 use Rattle.rules.specs.Laws.Quota.{sorted}
 use Rattle.rules.specs.Laws.Step.{Step, skips, notes, holds, marks, link-step, holding-step, note-best-step, note-other, note-cases, rested-holding}
@@ -279,7 +279,7 @@ module _ {n k a b : ℕ} {E E′ : Links} {t₀ t : Tables} (G : Grown E E′ a 
       crowded-top = record {
         crowd = crowd;
         inside = λ v s. let (h, e) = crowd-elim v s in (h, label-joins n (t .held) inside top v top-in h (top-own ∙ sym e));
-        two = count-two crowd n a b ha hb d (crowd-intro a ha refl) (crowd-intro b hb (sym same));
+        two = two-count crowd n a b d ha hb (crowd-intro a ha refl) (crowd-intro b hb (sym same));
         full = rw (crowd-size, crowd-held) full;
       }
 

@@ -33,11 +33,6 @@ module _ (p : ℕ → ℕ) where
   up-rest zero v e = up-zero v
   up-rest (suc k) v e = up-suc k v ∙ ap (up p k) e ∙ up-rest k v e
 
--- Two tables of parents that agree where a way goes lead the same way.
-pub up-same : (p q : ℕ → ℕ) (P : ℕ → Type 0) → ((v : ℕ) → P v → P (p v) × (p v ≡ q v)) → (k v : ℕ) → P v → up p k v ≡ up q k v
-up-same p q P f zero v h = up-zero p v ∙ sym (up-zero q v)
-up-same p q P f (suc k) v h = up-suc p k v ∙ up-same p q P f k (p v) (f v h .0) ∙ ap (up q k) (f v h .1) ∙ sym (up-suc q k v)
-
 -- Who is above whom is decided.
 pub over-dec : (p l : ℕ → ℕ) (a b : ℕ) → Dec (Over p l a b)
 over-dec p l a b = ℕ-discrete (up p (l b - l a) b) a

@@ -3,7 +3,7 @@
 use Prim.Native.Nat.{ℕ, zero, suc, _+_, _-_, _*_, _<_, _≤_}
 use mathlib.Core.Path.{_≡_, refl, sym, ap, _∙_, subst}
 use mathlib.Core.List.{List}
-use mathlib.Core.Bool.{Bool, not, _&&_}
+use mathlib.Core.Bool.{not, _&&_}
 use mathlib.Core.Logic.{_⊎_, inl, inr, _≢_, ⊎-map}
 use native.Mathlib.Omega.{arith}
 use native.Mathlib.Decide.{ℕ-discrete, decLt}
@@ -21,7 +21,7 @@ use Rattle.rules.specs.Laws.Chain.{join, one, carry}
 use Rattle.rules.specs.Laws.Links.{linked-turn}
 use Rattle.rules.specs.Laws.Up.{over-refl, over-up, over-down, over-antisym}
 use Rattle.rules.specs.Laws.Tables.{placed-rank, rank-placed, placed-loose, placed-or-loose, par-placed, standing-levels, standing-place, place-note, place-mark, place-held, place-crossed, parentOf-place-same, parentOf-place-other, rank-place-same, rank-place-other}
-use Rattle.rules.specs.Laws.Search.{first-passes, first-least, count-le, count-yes, count-no}
+use Rattle.rules.specs.Laws.Search.{first-passes, first-least, count-le, some-count}
 use Rattle.rules.specs.Laws.Kept.{Kept, place-count, kept-placed, parent-placed, over-rank, over-kept}
 
 -- The fragments of the top's piece.
@@ -293,17 +293,6 @@ grown {n} {w} {at} {x} S h p g e =
       other-rank = rank-place-other x at r w;
     }
 
--- Where one passes, at least one is counted.
-count-some : (p : ℕ → Bool) (n v : ℕ) → v < n → T (p v) → 0 < count p n
-count-some p zero v h t = absurd (omega arith)
-count-some p (suc n) v h t = elim (T-dec (p n)) [
-  | yes q ↦ omega (arith, count-yes p n q)
-  | no q ↦ elim (ℕ-discrete n v) [
-    | yes e ↦ absurd (q (rw e t))
-    | no e ↦ omega (arith, count-no p n q, count-some p n v (omega arith) t)
-  ]
-]
-
 abbrev Ended : ℕ → ℕ → Tables → Walk → Type 0
 Ended n top t w = Walked n top t (w .tables) (w .deepest)
 
@@ -403,7 +392,7 @@ module _ {n top : ℕ} {t : Tables} (R : Ready n top t) where
 
 pub walk : (n top : ℕ) (t : Tables) → Ready n top t → Walked n top t (walked n top t .tables) (walked n top t .deepest)
 unfolding walked
-walk n top t R = steps R (2 * n) (record { tables = t; at = top; deepest = top }) (record { reached = starts R; opened = opens R }) (omega (arith, count-some (placed t) n top (R .top-in) (R .top-placed), count-le (placed t) n))
+walk n top t R = steps R (2 * n) (record { tables = t; at = top; deepest = top }) (record { reached = starts R; opened = opens R }) (omega (arith, some-count (placed t) n top (R .top-in) (R .top-placed), count-le (placed t) n))
 
 -- What was placed before the walk stays.
 pub walked-kept : {n top : ℕ} {t w : Tables} {deepest : ℕ} → Ready n top t → Walked n top t w deepest → Kept t w
