@@ -26,7 +26,7 @@ use Rattle.rules.specs.Laws.Reading.{read-notes, note-exact}
 use Rattle.rules.specs.Laws.Passes.{fresh-partial, pass-keeps, pass-grows, pass-finishes, result}
 use Rattle.rules.specs.Laws.Ceiling.{unfinished-places, within-ceiling, within-lower}
 use Rattle.rules.specs.Laws.Reports.{forest-piece, accepts, noted-sole, noted-cut, noted-piece, noted-reports, reading-exact, sole-exact, cut-exact, piece-exact, equal-reports}
-use Rattle.rules.specs.Laws.Method.{forest-accepted, forests-agree, method-stands, method-accepted, tell-passes, first-owes, finished-piece}
+use Rattle.rules.specs.Laws.Method.{forest-accepted, forests-agree, method-stands, method-accepted, methods-agree, tell-passes, first-owes, finished-piece}
 use Rattle.rules.specs.Laws.Up.{level-arrives, level-fewest}
 use Rattle.rules.specs.Laws.Tables.{standing-levels}
 use Rattle.rules.specs.Laws.Adopting.{level-depth, adopted-exact}
@@ -158,9 +158,13 @@ module _ (n : ℕ) (E : Links) (among : Among n E) where
   forests-equal s t g h S Z C D = forests-agree among S Z C D g h
 
 -- So of every method that keeps what a method owes (record Owes in Method.antt), where every pass told the set and nothing is unplaced: what it
--- built stands, and a pass that tells the set is accepted. (P1: Laws.Met.met-done.)
-pub method-reads : {S : Type 0} (n : ℕ) (M : Method S) (Sound : S → Type 0) → Owes n M Sound → (E : Links) → Among n E → (gs : List (List Link)) → Each (Tells E) gs → T (done n (M .forest (after M gs))) → Standing n (M .forest (after M gs)) × ((g : List Link) → Tells E g → T (accepted n (readLinks (cleared n (M .forest (after M gs))) g)))
-method-reads n M Sound O E among gs tells d = (method-stands O E among gs tells, method-accepted O E among gs tells d)
+-- built stands, a pass that tells the set is accepted, and two such methods, or one with two rooms, report alike. (P1: Laws.Met.met-done.)
+module _ {S : Type 0} (n : ℕ) (M : Method S) (Sound : S → Type 0) (owes : Owes n M Sound) (E : Links) (among : Among n E) (gs : List (List Link)) (tells : Each (Tells E) gs) (d : T (done n (M .forest (after M gs)))) where
+  pub method-reads : Standing n (M .forest (after M gs)) × ((g : List Link) → Tells E g → T (accepted n (readLinks (cleared n (M .forest (after M gs))) g)))
+  method-reads = (method-stands owes E among gs tells, method-accepted owes E among gs tells d)
+
+  pub methods-equal : {Z : Type 0} (N : Method Z) (Whole : Z → Type 0) → Owes n N Whole → (hs : List (List Link)) → Each (Tells E) hs → T (done n (N .forest (after N hs))) → (g h : List Link) → Tells E g → Tells E h → SameReports n (readLinks (cleared n (M .forest (after M gs))) g) (readLinks (cleared n (N .forest (after N hs))) h)
+  methods-equal N Whole other hs tell c = methods-agree owes other E among gs hs tells tell d c
 
 -- B1 to B6 are such a method: what they keep at every moment is Underway.
 pub first-method : (n k : ℕ) → 1 ≤ k → Owes n (firstMethod n k) (Underway n k)

@@ -70,6 +70,10 @@ module _ {S : Type 0} {n : ℕ} {M : Method S} {Sound : S → Type 0} (O : Owes 
     pub method-accepted : T (done n (M .forest (after M gs))) → (g : List Link) → Tells E g → T (accepted n (readLinks (cleared n (M .forest (after M gs))) g))
     method-accepted d = forest-accepted A method-stands (O .ends E gs A tells d)
 
+-- Two methods that were told one set report alike.
+pub methods-agree : {S Z : Type 0} {n : ℕ} {M : Method S} {N : Method Z} {Sound : S → Type 0} {Whole : Z → Type 0} → Owes n M Sound → Owes n N Whole → (E : Links) → Among n E → (gs hs : List (List Link)) → Each (Tells E) gs → Each (Tells E) hs → T (done n (M .forest (after M gs))) → T (done n (N .forest (after N hs))) → (g h : List Link) → Tells E g → Tells E h → SameReports n (readLinks (cleared n (M .forest (after M gs))) g) (readLinks (cleared n (N .forest (after N hs))) h)
+methods-agree O P E A gs hs e f c d = forests-agree A (method-stands O E A gs e) (method-stands P E A hs f) (O .ends E gs A e c) (P .ends E hs A f d)
+
 -- B1 to B6.
 module _ (n k : ℕ) where
   tell-list : (t : Tables) (g : List Link) → tellList (firstMethod n k) t g ≡ buildLinks n k t g
