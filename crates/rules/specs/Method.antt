@@ -42,7 +42,7 @@ pub record Owes {S : Type 0} (n : ℕ) (M : Method S) (Sound : S → Type 0) : T
   -- and where it holds a forest stands
   pub stands : (s : S) → Sound s → Standing n (M .forest s)
   -- telling places nothing
-  pub places-nothing : (s : S) (e : Link) (v : ℕ) → placed (M .forest (M .tell s e)) v ≡ placed (M .forest s) v
+  pub places-nothing : (s : S) (a b : ℕ) → a < n → b < n → a ≢ b → Sound s → (v : ℕ) → placed (M .forest (M .tell s (a, b))) v ≡ placed (M .forest s) v
   -- where every pass told the set: what is done is a depth-first forest of it,
   pub ends : (E : Links) (gs : List (List Link)) → Among n E → Each (Tells E) gs → T (done n (M .forest (after M gs))) → DepthFirst n (par (M .forest (after M gs))) E
   -- and passes that left something unplaced, and one more, are few

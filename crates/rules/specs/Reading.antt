@@ -10,7 +10,7 @@ use Rattle.rules.specs.Forest.{up}
 use Rattle.rules.specs.Search.{count, some, every, first, least}
 use Rattle.rules.specs.Tables.{Tables, noteOf, markOf, par, lev, putNote, putMark, putCrossed}
 
--- a is on b's way to the root; b itself counts.
+-- a is on b's way to the root; b itself counts: the test of Over (Forest.antt).
 unfoldable pub above : Tables → ℕ → ℕ → Bool
 above t a b = eqb (up (par t) (lev t b - lev t a) b) a
 

@@ -93,7 +93,7 @@ module _ (n k : ℕ) where
     after-link = λ t a b i j d U. building-kept i j d U;
     after-close = λ t U. rested-underway n k (closeBuilding n t) pos (close-stands U) (close-rests U);
     stands = λ t U. U .standing;
-    places-nothing = λ t (a, b) v. ap (λ (p : ℕ → Bool). p v) (same-placed (step-forest (link-step n k a b t)));
+    places-nothing = λ t a b i j d U v. ap (λ (p : ℕ → Bool). p v) (same-placed (step-forest (link-step n k a b t)));
     ends = λ E gs A e. subst (λ (t : Tables). T (done n t) → DepthFirst n (par t) E) (sym (tell-passes (fresh n) gs)) (result pos A gs e);
     few = λ E gs g A e f. subst (λ (t : Tables). (T (done n t) → ⊥) → length (gs ++ (g ∷ [])) ≤ ceiling n k) (sym (tell-passes (fresh n) gs)) (λ left. within-ceiling n k pos gs (each-among E A gs e) left g);
   }
