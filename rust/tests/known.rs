@@ -1,4 +1,4 @@
-//! The known instances P1 to P10 of document 01, through the calls.
+//! The known instances through the calls: P1 to P10 of document 01, and Q1 to Q4 (docs/RULES.md).
 
 mod common;
 
@@ -36,6 +36,31 @@ fn built() {
     assert_eq!(instance(1, 1, &[]), (1, vec![0], vec![], vec![]));
     assert_eq!(instance(3, 1, &[(0, 1), (0, 1), (1, 2)]), (1, vec![0, 0, 1], vec![(0, 1), (1, 2)], vec![1]));
     assert_eq!(instance(4, 1, &[(0, 1), (0, 2), (1, 3), (2, 3)]), (2, vec![0, 0, 3, 1], vec![], vec![]));
+}
+
+/// Built from lists that are told one after another, the last one until all is placed: passes and parents.
+fn built_from(n: u32, k: u32, lists: &[&[Link]]) -> (u32, Vec<u32>) {
+    let mut forest = Forest::start(n, k).unwrap();
+    for links in lists.iter().chain(std::iter::repeat(&lists[lists.len() - 1])) {
+        tell(&mut forest, links, usize::MAX);
+        if forest.close() == Ok(Ending::Done) {
+            break;
+        }
+    }
+    (forest.passes(), (0..n).map(|v| forest.parent(v).unwrap()).collect())
+}
+
+/// Each holds one choice of B2 to B5 that P1 to P10 leave open.
+#[test]
+fn pinned() {
+    // The smallest member that noted it is the top.
+    assert_eq!(built_from(4, 1, &[&[(0, 2), (0, 3), (0, 1), (3, 2)]]), (2, vec![0, 0, 0, 2]));
+    // The first reached among equals is the deepest.
+    assert_eq!(built_from(3, 1, &[&[(1, 0), (0, 2), (2, 1)]]), (2, vec![0, 0, 1]));
+    // A piece of s holds k·s - 1 links.
+    assert_eq!(built_from(5, 2, &[&[(0, 3), (0, 4), (4, 2), (4, 3), (1, 4), (1, 2), (0, 2), (1, 3), (1, 0)]]), (1, vec![0, 0, 1, 4, 2]));
+    // Of two noted of equal level the smaller number, in passes that differ.
+    assert_eq!(built_from(4, 1, &[&[(1, 0), (0, 3), (3, 1), (0, 3)], &[(3, 2), (3, 0)]]), (2, vec![0, 0, 2, 0]));
 }
 
 #[test]

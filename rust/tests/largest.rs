@@ -57,6 +57,7 @@ fn most_held(n: u32, k: u32) {
     assert!(beside.close());
     assert_eq!(beside.most_held, links.len());
     assert_eq!(forest.frag[..n as usize], beside.parent);
+    assert!(forest.frag[n as usize..2 * n as usize].iter().zip(&beside.level).all(|(&word, &level)| word == level + 1));
     assert!(guards_stand(&forest, n, k));
 }
 

@@ -169,7 +169,7 @@ fn single_words_changed() {
         let n = 1 + dice.below(9);
         let k = 1 + dice.below(3);
         let links = list(&mut dice, n, round % 4);
-        let mut forest = if round % 2 == 0 {
+        let forest = if round % 2 == 0 {
             let mut f = Forest::start(n, k).unwrap();
             if round % 4 == 0 {
                 tell(&mut f, &links, 3);
@@ -225,7 +225,6 @@ fn single_words_changed() {
             }
             assert_eq!(changed, before);
         }
-        let _ = &mut forest;
     }
     println!("words changed: still a state {still}, refused with 11 {broken}");
     assert!(still > 5_000 && broken > 20_000);

@@ -1,10 +1,54 @@
 //! Lists made at random, built, read and asked about by the proved calls, beside the same rules in plain Rust and a search by removal.
 
 mod common;
+#[path = "common/model.rs"]
+mod model;
 
 use common::{build, list, tell, Dice};
+use model::Model;
 use welmocant::plain::{self, removal, Building, Link};
-use welmocant::{Ending, Forest, Stage};
+use welmocant::{block, Ending, Forest, Stage};
+
+/// Tells a list in blocks of so many links, to both: every stored word after each.
+fn tell_both(forest: &mut Forest, model: &mut Model, links: &[Link], size: usize) {
+    for part in links.chunks(size.max(1)) {
+        forest.take(&block(part)).unwrap();
+        model.take(part);
+        assert_eq!(*forest, model.words());
+    }
+}
+
+/// Closes a pass in Building on all three sides: every stored word, and the parents and levels of the plain rules. True when all is placed.
+fn close_all(forest: &mut Forest, model: &mut Model, beside: &mut Building) -> bool {
+    let ending = forest.close().unwrap();
+    assert_eq!(model.close(), Some(ending));
+    assert_eq!(*forest, model.words());
+    let done = beside.close();
+    assert_eq!(ending, if done { Ending::Done } else { Ending::More });
+    let n = beside.level.len();
+    for v in 0..n {
+        let placed = beside.level[v] != u32::MAX;
+        assert_eq!(forest.frag[n + v], if placed { beside.level[v] + 1 } else { 0 });
+        assert_eq!(forest.frag[v], if placed { beside.parent[v] } else { 0 });
+    }
+    assert_eq!(forest.passes() as usize, beside.passes);
+    done
+}
+
+/// A reading pass on both sides, every stored word after each call: whether it is accepted.
+fn read_both(forest: &mut Forest, model: &mut Model, links: &[Link], size: usize) -> bool {
+    forest.open_reading().unwrap();
+    model.open_reading();
+    assert_eq!(*forest, model.words());
+    tell_both(forest, model, links, size);
+    let ending = forest.close();
+    match model.close() {
+        Some(expected) => assert_eq!(ending, Ok(expected)),
+        None => assert_eq!(ending.unwrap_err().number, 9),
+    }
+    assert_eq!(*forest, model.words());
+    ending.is_ok()
+}
 
 /// Every answer in Read against the search by removal.
 fn compare_with_removal(forest: &mut Forest, n: u32, links: &[Link]) -> (usize, usize) {
@@ -25,31 +69,23 @@ fn compare_with_removal(forest: &mut Forest, n: u32, links: &[Link]) -> (usize, 
     (soles, cuts)
 }
 
-/// One list: built pass by pass beside the plain rules, word for word in what is stored, then read.
-fn one_list(n: u32, k: u32, links: &mut Vec<Link>, dice: &mut Dice, shuffled: bool) -> (Forest, Building) {
+/// One list, built pass by pass: every stored word after every call.
+fn one_list(n: u32, k: u32, links: &mut Vec<Link>, dice: &mut Dice, shuffled: bool) -> (Forest, Model, Building) {
     let mut forest = Forest::start(n, k).unwrap();
+    let mut model = Model::start(n, k);
     let mut beside = Building::new(n as usize, k as usize);
     loop {
         if shuffled {
             dice.shuffle(links);
         }
-        tell(&mut forest, links, 1 + dice.below(links.len() as u32 + 1) as usize);
+        tell_both(&mut forest, &mut model, links, 1 + dice.below(links.len() as u32 + 1) as usize);
         beside.take(links);
-        let ending = forest.close().unwrap();
-        let done = beside.close();
-        assert_eq!(ending, if done { Ending::Done } else { Ending::More });
-        for v in 0..n as usize {
-            let placed = beside.level[v] != u32::MAX;
-            assert_eq!(forest.frag[n as usize + v], if placed { beside.level[v] + 1 } else { 0 });
-            assert_eq!(forest.frag[v], if placed { beside.parent[v] } else { 0 });
-        }
-        assert_eq!(forest.passes() as usize, beside.passes);
-        if done {
+        if close_all(&mut forest, &mut model, &mut beside) {
             break;
         }
     }
     assert!(forest.passes() <= n.div_ceil(k));
-    (forest, beside)
+    (forest, model, beside)
 }
 
 #[test]
@@ -60,11 +96,9 @@ fn small_lists_by_removal() {
         let n = 1 + dice.below(12);
         let k = 1 + dice.below(5);
         let mut links = list(&mut dice, n, round % 4);
-        let (mut forest, beside) = one_list(n, k, &mut links, &mut dice, round % 2 == 0);
-        forest.open_reading().unwrap();
+        let (mut forest, mut model, beside) = one_list(n, k, &mut links, &mut dice, round % 2 == 0);
         dice.shuffle(&mut links);
-        tell(&mut forest, &links, 1 + dice.below(5) as usize);
-        assert_eq!(forest.close(), Ok(Ending::Read));
+        assert!(read_both(&mut forest, &mut model, &links, 1 + dice.below(5) as usize));
         assert_eq!(forest.entries() as usize, links.len());
         let (s, c) = compare_with_removal(&mut forest, n, &links);
         lists += 1;
@@ -86,10 +120,8 @@ fn larger_lists_beside_the_plain_rules() {
         let n = 20 + dice.below(180);
         let k = [1, 2, 3, 4, 8, 64][dice.below(6) as usize];
         let mut links = list(&mut dice, n, round % 4);
-        let (mut forest, beside) = one_list(n, k, &mut links, &mut dice, true);
-        forest.open_reading().unwrap();
-        tell(&mut forest, &links, 7);
-        assert_eq!(forest.close(), Ok(Ending::Read));
+        let (mut forest, mut model, beside) = one_list(n, k, &mut links, &mut dice, true);
+        assert!(read_both(&mut forest, &mut model, &links, 1 + links.len() / 4));
         let read = plain::read(&beside.parent, &links).expect("the plain reading accepts too");
         for v in 0..n {
             assert_eq!(forest.parent(v), Ok(read.parent[v as usize]));
@@ -121,10 +153,8 @@ fn every_order_of_every_small_list() {
             for order in &mut orders {
                 for k in 1..=3 {
                     let mut dice = Dice::new(3);
-                    let (mut forest, _) = one_list(n, k, order, &mut dice, false);
-                    forest.open_reading().unwrap();
-                    tell(&mut forest, order, 2);
-                    assert_eq!(forest.close(), Ok(Ending::Read));
+                    let (mut forest, mut model, _) = one_list(n, k, order, &mut dice, false);
+                    assert!(read_both(&mut forest, &mut model, order, 2));
                     compare_with_removal(&mut forest, n, order);
                     count += 1;
                 }
@@ -148,25 +178,25 @@ fn permute(list: &mut Vec<Link>, from: usize, out: &mut Vec<Vec<Link>>) {
 
 #[test]
 fn passes_that_tell_different_lists() {
-    // The reading pass refuses, or what it answers is true of the list it read.
+    // Every pass does what the rules say of the list it told; the reading pass refuses, or what it answers is true of the list it read.
     let mut dice = Dice::new(4);
-    let (mut refused, mut accepted) = (0, 0);
+    let (mut refused, mut accepted, mut changed) = (0, 0, 0);
     for round in 0..8_000u32 {
-        let n = 2 + dice.below(10);
+        let n = 2 + dice.below(if round % 8 < 4 { 10 } else { 40 });
         let k = 1 + dice.below(3);
         let mut forest = Forest::start(n, k).unwrap();
+        let mut model = Model::start(n, k);
         let mut beside = Building::new(n as usize, k as usize);
         let mut told = list(&mut dice, n, round % 4);
         loop {
-            tell(&mut forest, &told, 3);
+            tell_both(&mut forest, &mut model, &told, 3);
             beside.take(&told);
-            let done = beside.close();
-            assert_eq!(forest.close().unwrap() == Ending::Done, done);
-            if done {
+            if close_all(&mut forest, &mut model, &mut beside) {
                 break;
             }
             if dice.below(2) == 0 {
                 told = list(&mut dice, n, round % 4);
+                changed += 1;
             }
         }
         assert!(forest.passes() <= n.div_ceil(k));
@@ -174,27 +204,21 @@ fn passes_that_tell_different_lists() {
             told.pop();
         }
         let parents: Vec<u32> = (0..n).map(|v| forest.parent(v).unwrap()).collect();
-        forest.open_reading().unwrap();
-        tell(&mut forest, &told, 4);
-        let before = forest.clone();
-        match forest.close() {
-            Ok(_) => {
-                accepted += 1;
-                assert!(plain::read(&parents, &told).is_some());
+        assert_eq!(parents, beside.parent);
+        let read = read_both(&mut forest, &mut model, &told, 4);
+        assert_eq!(read, plain::read(&parents, &told).is_some());
+        if read {
+            accepted += 1;
+            if n < 12 {
                 compare_with_removal(&mut forest, n, &told);
             }
-            Err(r) => {
-                refused += 1;
-                assert_eq!(r.number, 9);
-                assert!(plain::read(&parents, &told).is_none());
-                assert_eq!(forest.stage(), Some(Stage::Built));
-                assert_eq!(forest.frag[..2 * n as usize], before.frag[..2 * n as usize]);
-                assert!(forest.frag[2 * n as usize..].iter().all(|&w| w == 0));
-            }
+        } else {
+            refused += 1;
+            assert_eq!(forest.stage(), Some(Stage::Built));
         }
     }
-    println!("changed lists: reading refused {refused}, accepted {accepted}");
-    assert!(refused > 1_000 && accepted > 1_000);
+    println!("changed lists: between two passes {changed}, reading refused {refused}, accepted {accepted}");
+    assert!(changed > 500 && refused > 1_000 && accepted > 1_000);
 }
 
 #[test]
@@ -217,18 +241,15 @@ fn adopted_forests() {
                 if dice.below(6) == 0 {
                     links.pop();
                 }
-                forest.open_reading().unwrap();
-                tell(&mut forest, &links, 2);
-                match (forest.close(), plain::read(&parents, &links)) {
-                    (Ok(Ending::Read), Some(_)) => {
-                        taken += 1;
-                        compare_with_removal(&mut forest, n, &links);
-                    }
-                    (Err(r), None) => {
-                        refused += 1;
-                        assert_eq!(r.number, 9);
-                    }
-                    (ours, theirs) => panic!("{parents:?} {links:?}: {ours:?}, {}", theirs.is_some()),
+                let mut model = Model::adopt(1 + round % 64, &parents, &level);
+                assert_eq!(forest, model.words());
+                let read = read_both(&mut forest, &mut model, &links, 2);
+                assert_eq!(read, plain::read(&parents, &links).is_some(), "{parents:?} {links:?}");
+                if read {
+                    taken += 1;
+                    compare_with_removal(&mut forest, n, &links);
+                } else {
+                    refused += 1;
                 }
             }
             (Err(r), None) => {
