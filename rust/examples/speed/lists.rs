@@ -54,11 +54,31 @@ fn path(dice: &mut Dice, n: u32, count: usize) -> Vec<Link> {
     links
 }
 
+/// The factor of `building::index`: the home slot of a link is the high part of its word times this, of 32 bits.
+const FACTOR: u32 = 2_654_435_769;
+
+/// Links whose words lie next to one another by their home slots: the way from each goes over all that stand there.
+fn hurt(dice: &mut Dice, n: u32, count: usize) -> Vec<Link> {
+    // The inverse of an odd factor, by Newton's rule: each step doubles the bits that are right.
+    let inverse = (0..5).fold(FACTOR, |x, _| x.wrapping_mul(2u32.wrapping_sub(FACTOR.wrapping_mul(x))));
+    let words = (0u32..).map(|spread| spread.wrapping_mul(inverse)).filter(|w| w >> 15 < w & 32_767 && w & 32_767 < n);
+    let mut links: Vec<Link> = words.map(|w| (w >> 15, w & 32_767)).take(count).collect();
+    dice.shuffle(&mut links);
+    links
+}
+
+/// Links along the numbers.
+fn rising(n: u32, count: usize) -> Vec<Link> {
+    (0..count as u32).map(|i| i % (n - 1)).map(|v| (v, v + 1)).collect()
+}
+
 pub fn links(row: &Row) -> Vec<Link> {
     let mut dice = Dice::new(20);
     match row.list {
         List::Random => random(&mut dice, row.n, row.links),
         List::Path => path(&mut dice, row.n, row.links),
+        List::Hurt => hurt(&mut dice, row.n, row.links),
+        List::Rising => rising(row.n, row.links),
     }
 }
 

@@ -8,7 +8,7 @@ mod rows;
 mod sides;
 
 use clock::Clock;
-use rows::{Row, What};
+use rows::{List, Row, What};
 use sides::Run;
 use std::process::exit;
 
@@ -92,7 +92,8 @@ fn print(row: &Row, ours: &Side, plain: &Side) {
     let runs = ours.0.len().max(plain.0.len());
     let some = ours.0.first().or(plain.0.first()).unwrap();
     let words = |side: &Side| side.0.first().map_or("-".to_string(), |run| grouped(run.words));
-    let ratio = ours.best().zip(plain.best()).map(|(a, b)| a / b);
+    // What takes no time that the clock can tell has no ratio.
+    let ratio = ours.best().zip(plain.best()).filter(|&(_, b)| b >= 0.05).map(|(a, b)| a / b);
     let cells = [
         row.what.to_string(),
         row.list.to_string(),
@@ -113,15 +114,20 @@ fn print(row: &Row, ours: &Side, plain: &Side) {
     println!("| {} |", cells.join(" | "));
 }
 
+/// The forest that is read or adopted: the one that plain Rust builds; in a rising one each fragment hangs under the next.
+fn parents(row: &Row, blocks: &[Vec<u8>]) -> Vec<u32> {
+    match (row.what, row.list) {
+        (What::Build | What::Take, _) => Vec::new(),
+        (What::Adopt, List::Rising) => (1..row.n).chain([row.n - 1]).collect(),
+        _ => sides::build_plain(row, blocks).answer[..row.n as usize].to_vec(),
+    }
+}
+
 /// Both sides in turn, so that what else the machine does falls on both.
 fn measure(row: &Row, options: &Options) {
     let links = lists::links(row);
     let blocks = lists::blocks(row, &links);
-    // A reading pass is over the forest that plain Rust builds.
-    let parents = match row.what {
-        What::Build => Vec::new(),
-        What::Read => sides::build_plain(row, &blocks).answer[..row.n as usize].to_vec(),
-    };
+    let parents = parents(row, &blocks);
     let (mut ours, mut plain) = (Side(Vec::new()), Side(Vec::new()));
     let start = Clock::start();
     for run in 0..options.runs {
@@ -129,10 +135,20 @@ fn measure(row: &Row, options: &Options) {
             break;
         }
         if options.ours {
-            ours.0.push(if row.what == What::Build { sides::build(row, &blocks) } else { sides::read(row, &parents, &blocks) });
+            ours.0.push(match row.what {
+                What::Build => sides::build(row, &blocks),
+                What::Read => sides::read(row, &parents, &blocks),
+                What::Take => sides::take(row, &blocks),
+                What::Adopt => sides::adopt(row, &parents),
+            });
         }
         if options.plain {
-            plain.0.push(if row.what == What::Build { sides::build_plain(row, &blocks) } else { sides::read_plain(row, &parents, &blocks) });
+            plain.0.push(match row.what {
+                What::Build => sides::build_plain(row, &blocks),
+                What::Read => sides::read_plain(row, &parents, &blocks),
+                What::Take => sides::take_plain(row, &blocks),
+                What::Adopt => sides::adopt_plain(&parents),
+            });
         }
         if let (Some(a), Some(b)) = (ours.0.last(), plain.0.last()) {
             if a.passes != b.passes || a.answer != b.answer {

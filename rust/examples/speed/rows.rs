@@ -6,12 +6,16 @@ use std::fmt;
 pub enum What {
     Build,
     Read,
+    Take,
+    Adopt,
 }
 
 #[derive(Clone, Copy, PartialEq)]
 pub enum List {
     Random,
     Path,
+    Hurt,
+    Rising,
 }
 
 #[derive(Clone, Copy, PartialEq)]
@@ -32,13 +36,23 @@ pub struct Row {
 
 impl fmt::Display for What {
     fn fmt(&self, f: &mut fmt::Formatter) -> fmt::Result {
-        f.write_str(if *self == What::Build { "build" } else { "read" })
+        f.write_str(match self {
+            What::Build => "build",
+            What::Read => "read",
+            What::Take => "take",
+            What::Adopt => "adopt",
+        })
     }
 }
 
 impl fmt::Display for List {
     fn fmt(&self, f: &mut fmt::Formatter) -> fmt::Result {
-        f.write_str(if *self == List::Random { "random" } else { "path" })
+        f.write_str(match self {
+            List::Random => "random",
+            List::Path => "path",
+            List::Hurt => "hurt",
+            List::Rising => "rising",
+        })
     }
 }
 
@@ -58,8 +72,8 @@ impl Row {
     pub fn named(words: &[String]) -> Option<Row> {
         let [what, list, n, links, k, blocks] = words else { return None };
         let row = Row {
-            what: if what == "read" { What::Read } else { What::Build },
-            list: if list == "path" { List::Path } else { List::Random },
+            what: *[What::Build, What::Read, What::Take, What::Adopt].iter().find(|w| w.to_string() == *what)?,
+            list: *[List::Random, List::Path, List::Hurt, List::Rising].iter().find(|l| l.to_string() == *list)?,
             n: n.parse().ok()?,
             links: links.parse().ok()?,
             k: k.parse().ok()?,
@@ -100,8 +114,19 @@ pub fn table(quick: bool, by: usize) -> Vec<Row> {
             add(What::Build, List::Random, n, LINKS, k, Blocks::One);
         }
     }
-    for (list, k, blocks) in every(&lists, &[4, 64], ways) {
+    for (list, k, blocks) in every(&lists, &[4, 64], &[Blocks::One]) {
         add(What::Read, list, N, LINKS, k, blocks);
+    }
+    if quick {
+        return rows;
+    }
+    for (what, list) in [(What::Take, List::Random), (What::Take, List::Hurt), (What::Build, List::Random), (What::Build, List::Hurt)] {
+        for step in 0..3 {
+            add(what, list, N, (LINKS / 50) << step, 4, Blocks::One);
+        }
+    }
+    for (list, n) in [(List::Random, N), (List::Path, N), (List::Rising, N / 4), (List::Rising, N / 2), (List::Rising, N)] {
+        add(What::Adopt, list, n, if list == List::Rising { 0 } else { LINKS }, 4, Blocks::One);
     }
     rows
 }

@@ -88,3 +88,49 @@ pub fn read_plain(row: &Row, parents: &[u32], blocks: &[Vec<u8>]) -> Run {
     answer.extend(reading.seen.iter().map(|&s| s as u32));
     Run { time, passes: 1, answer, words: reading.words() + words_of(&links) }
 }
+
+/// One take more, of an empty block, once the list was told: what every call of that pass pays for the links held so far.
+#[inline(never)]
+pub fn take(row: &Row, blocks: &[Vec<u8>]) -> Run {
+    let mut forest = Forest::start(row.n, row.k).unwrap();
+    for block in blocks {
+        forest.take(block).unwrap();
+    }
+    let start = Clock::start();
+    forest.take(&[]).unwrap();
+    let time = start.passed();
+    Run { time, passes: 0, answer: vec![forest.state[5]], words: forest.frag.len() + forest.held.len() }
+}
+
+#[inline(never)]
+pub fn take_plain(row: &Row, blocks: &[Vec<u8>]) -> Run {
+    let mut links: Vec<Link> = Vec::new();
+    let mut building = Building::new(row.n as usize, row.k as usize);
+    for block in blocks {
+        decode(row.n, 0, block, &mut links).unwrap();
+        building.take(&links);
+    }
+    let start = Clock::start();
+    building.take(&[]);
+    let time = start.passed();
+    let words = building.words() + words_of(&links);
+    building.close();
+    Run { time, passes: 0, answer: vec![building.most_held as u32], words }
+}
+
+/// Adopting the forest with these parents.
+#[inline(never)]
+pub fn adopt(row: &Row, parents: &[u32]) -> Run {
+    let start = Clock::start();
+    let forest = Forest::adopt(row.k, parents).unwrap();
+    let time = start.passed();
+    let n = row.n as usize;
+    Run { time, passes: 0, answer: forest.frag[n..2 * n].iter().map(|level| level - 1).collect(), words: forest.frag.len() + forest.held.len() }
+}
+
+#[inline(never)]
+pub fn adopt_plain(parents: &[u32]) -> Run {
+    let start = Clock::start();
+    let answer = levels(parents).unwrap();
+    Run { time: start.passed(), passes: 0, words: 2 * answer.len(), answer }
+}
