@@ -1,4 +1,4 @@
-//! The known instances through the calls: P1 to P10 of document 01, and Q1 to Q4 (docs/RULES.md).
+//! The known instances through the calls: P1 to P10 of document 01, and Q1 to Q6 (docs/RULES.md).
 
 mod common;
 
@@ -61,6 +61,10 @@ fn pinned() {
     assert_eq!(built_from(5, 2, &[&[(0, 3), (0, 4), (4, 2), (4, 3), (1, 4), (1, 2), (0, 2), (1, 3), (1, 0)]]), (1, vec![0, 0, 1, 4, 2]));
     // Of two noted of equal level the smaller number, in passes that differ.
     assert_eq!(built_from(4, 1, &[&[(1, 0), (0, 3), (3, 1), (0, 3)], &[(3, 2), (3, 0)]]), (2, vec![0, 0, 2, 0]));
+    // The deeper one stays noted, though another is told last.
+    assert_eq!(built_from(3, 1, &[&[(0, 1), (0, 2), (1, 2), (0, 2)]]), (2, vec![0, 0, 1]));
+    // A link held already fills no room.
+    assert_eq!(built_from(3, 1, &[&[(0, 1), (0, 1), (0, 2)]]), (1, vec![0, 0, 0]));
 }
 
 #[test]
