@@ -107,7 +107,7 @@ fn print(row: &Row, ours: &Side, plain: &Side) {
         shown(plain.best(), 1, ""),
         shown(ratio, 2, ""),
         shown(ours.spread(), 0, "%"),
-        shown(plain.spread(), 0, "%"),
+        shown(plain.spread().filter(|_| ratio.is_some()), 0, "%"),
         words(ours),
         words(plain),
     ];
