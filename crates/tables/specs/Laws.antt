@@ -1,4 +1,7 @@
--- The lemmas that the proofs of the code rest on.
+-- Laws about the definitions, and the lemmas that the proofs of the code rest on.
 -- Assumes nothing.
 pub mod Sections
 pub mod Climb
+pub mod Fragment
+pub mod Test
+pub mod Head

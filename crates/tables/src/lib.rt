@@ -1,7 +1,9 @@
-// The words of the tables by what they say: the stored sections, the held links, and the way up the forest.
+// The words of the tables by what they say: the stored sections, the held links, and the way up the forest; and the head of every call on a state.
 mod climb;
 mod links;
+mod refusals;
 mod sections;
+mod test;
 
 pub use climb::is_above;
 pub use climb::level_of;
@@ -10,12 +12,15 @@ pub use climb::root;
 pub use links::RADIX;
 pub use links::high_end;
 pub use links::low_end;
+pub use refusals::head;
 pub use sections::LEVEL;
 pub use sections::MARK;
 pub use sections::NOTE;
 pub use sections::PARENT;
+pub use sections::STORED;
 pub use sections::better_note;
 pub use sections::mark_at;
 pub use sections::note_at;
 pub use sections::parent_at;
 pub use sections::rank_at;
+pub use test::count_placed;

@@ -16,6 +16,9 @@ pub const NOTE: usize = 2;
 
 pub const MARK: usize = 3;
 
+// So many sections are stored; the others are scratch.
+pub const STORED: usize = 4;
+
 // Word v of a section behind the first.
 fn word_at(frag: &[u32], n: usize, j: usize, v: usize) -> usize
     requires { ⌜ (0 < j) × (j ≤ 3) ⌝ }
