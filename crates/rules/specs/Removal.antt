@@ -29,14 +29,18 @@ pub record Sole (g : List Link) (a b : ℕ) : Type 0 where
   pub listed : T (linked g a b)
   pub alone : JoinedBy (linked (withoutLink a b g)) a b → ⊥
 
+-- v parts a from b: they are joined, and every chain between them goes through v.
+pub record Parts (g : List Link) (v a b : ℕ) : Type 0 where
+  pub joined : JoinedBy (linked g) a b
+  pub through : JoinedBy (linked (withoutFragment v g)) a b → ⊥
+
 -- 'a fragment is cut when two others are joined, and every chain between them goes through it'
 pub record Cut (g : List Link) (v : ℕ) : Type 0 where
   pub one : ℕ
   pub two : ℕ
   pub other-one : one ≢ v
   pub other-two : two ≢ v
-  pub joined : JoinedBy (linked g) one two
-  pub through : JoinedBy (linked (withoutFragment v g)) one two → ⊥
+  pub parts : Parts g v one two
 
 -- p is the smallest fragment that v is joined with, by the links of a set,
 pub record PieceIn (E : Links) (v p : ℕ) : Type 0 where

@@ -247,14 +247,16 @@ module _ {n : ℕ} {g : List Link} {t : Tables} (N : NotesOf n g t) (D : DepthFi
               two = j;
               other-one = di;
               other-two = dj;
-              joined = step (up-link v i (omega arith) ei di) (one (linked-turn g j v (up-link v j hj ej dj)));
-              through = λ c. root-parts spanned v h e i j (omega arith) hj ei ej di dj (omega arith) (chain-fragment v g .0 c);
+              parts = record {
+                joined = step (up-link v i (omega arith) ei di) (one (linked-turn g j v (up-link v j hj ej dj)));
+                through = λ c. root-parts spanned v h e i j (omega arith) hj ei ej di dj (omega arith) (chain-fragment v g .0 c);
+              };
             }),
         (λ z. elim (decLe 2 (count (childOf t v) n)) [
           | yes m ↦ C .1 m
-          | no m ↦ absurd (z .through (chain-fragment v g .1 (root-whole spanned v h e
+          | no m ↦ absurd (z .parts .through (chain-fragment v g .1 (root-whole spanned v h e
               (λ c d hc hd ec ed dc dd. elim (ℕ-discrete c d) [ yes k ↦ k | no k ↦ absurd (m (two-count (childOf t v) n c d k hc hd (child-facts t v c .1 (ec, dc)) (child-facts t v d .1 (ed, dd)))) ])
-              (z .one) (z .two) (z .other-one) (z .other-two) (z .joined))))
+              (z .one) (z .two) (z .other-one) (z .other-two) (z .parts .joined))))
         ]),
       )
 
@@ -268,14 +270,16 @@ module _ {n : ℕ} {g : List Link} {t : Tables} (N : NotesOf n g t) (D : DepthFi
               two = par t v;
               other-one = d;
               other-two = e;
-              joined = step (up-link v c hc i d) (one (spanned .tree v h e));
-              through = λ j. inner-parts spanned reaches v h e c hc i d m (chain-fragment v g .0 j);
+              parts = record {
+                joined = step (up-link v c hc i d) (one (spanned .tree v h e));
+                through = λ j. inner-parts spanned reaches v h e c hc i d m (chain-fragment v g .0 j);
+              };
             }),
         (λ z. elim (T-dec (cut n t v)) [
           | yes q ↦ q
-          | no q ↦ absurd (z .through (chain-fragment v g .1 (inner-whole spanned reaches v h e
+          | no q ↦ absurd (z .parts .through (chain-fragment v g .1 (inner-whole spanned reaches v h e
               (λ c hc k d. elim (decLt (reach n t c) (lev t v)) [ yes m ↦ m | no m ↦ absurd (q (C .1 (c, hc, k, d, omega arith))) ])
-              (z .one) (z .two) (z .other-one) (z .other-two) (z .joined))))
+              (z .one) (z .two) (z .other-one) (z .other-two) (z .parts .joined))))
         ]),
       )
 

@@ -9,7 +9,7 @@ use native.Mathlib.Omega.{arith}
 use lib.Dec.{T, eqb, eqb→eq, not-T, T-not}
 use Rattle.base.specs.Truth.{or-l, or-r, or-cases, eq→eqb}
 use Rattle.rules.specs.Links.{Link, SameSet, linked, between, Joined, JoinedBy}
-use Rattle.rules.specs.Removal.{touches, withoutLink, withoutFragment, Sole, Cut, Piece}
+use Rattle.rules.specs.Removal.{touches, withoutLink, withoutFragment, Sole, Parts, Cut, Piece}
 use Rattle.rules.specs.Laws.Chain.{one, wider}
 use Rattle.rules.specs.Laws.Links.{between-elim, between-turn, linked-turn, joined-turn, keep-told, keep-in, keep-out}
 use Rattle.rules.specs.Laws.Up as Up
@@ -87,15 +87,14 @@ set-sole g h E a b z = record {
   alone = λ c. z .alone (chain-link a b g .1 (other-same h g (λ u v. sym (E u v)) a b (chain-link a b h .0 c)));
 }
 
-pub set-cut : (g h : List Link) → SameSet g h → (v : ℕ) → Cut g v → Cut h v
-set-cut g h E v z = record {
-  one = z .one;
-  two = z .two;
-  other-one = z .other-one;
-  other-two = z .other-two;
+set-parts : (g h : List Link) → SameSet g h → (v a b : ℕ) → Parts g v a b → Parts h v a b
+set-parts g h E v a b z = record {
   joined = wider (λ x y r. (rw (E x y) at r)) (z .joined);
   through = λ c. z .through (chain-fragment v g .1 (off-same h g (λ u w. sym (E u w)) v (chain-fragment v h .0 c)));
 }
+
+pub set-cut : (g h : List Link) → SameSet g h → (v : ℕ) → Cut g v → Cut h v
+set-cut g h E v z = record { one = z .one; two = z .two; other-one = z .other-one; other-two = z .other-two; parts = set-parts g h E v (z .one) (z .two) (z .parts) }
 
 pub set-piece : (g h : List Link) → SameSet g h → (v p q : ℕ) → Piece g v p → Piece h v q → p ≡ q
 set-piece g h E v p q x y = omega (arith, x .smallest q (wider (λ u w r. (rw (sym (E u w)) at r)) (y .joined)), y .smallest p (wider (λ u w r. (rw (E u w) at r)) (x .joined)))
