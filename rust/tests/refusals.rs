@@ -161,6 +161,35 @@ fn sound(f: &Forest) -> bool {
     notes && marks && zero && counts && read && (stage == 2 || crossed == 0)
 }
 
+/// Every call on a state within its bounds: 6 where the stage does not allow it, then 11 where the words are no state, else it is accepted or
+/// refused with 9. A refused call and a question change no word; 9 leaves a state.
+fn every_call(forest: &Forest, sound_before: bool) {
+    let (building, reading, read) = (forest.state[2] == 0, forest.state[2] == 2, forest.state[2] == 3);
+    type Call = fn(&mut Forest) -> Result<(), Refusal>;
+    let calls: [(bool, bool, Call); 8] = [
+        (building || reading, false, |f| f.take(&[])),
+        (building || reading, true, |f| f.close().map(|_| ())),
+        (!building && !reading, true, |f| f.open_reading()),
+        (!building, false, |f| f.parent(0).map(|_| ())),
+        (!building, false, |f| f.level(0).map(|_| ())),
+        (!building, false, |f| f.piece(0).map(|_| ())),
+        (read, false, |f| f.cut(0).map(|_| ())),
+        (read, false, |f| f.sole(f.state[0] - 1, f.state[0] / 2 * 2 % f.state[0]).map(|_| ())),
+    ];
+    for (i, (allowed, changes, call)) in calls.into_iter().enumerate() {
+        let mut after = forest.clone();
+        let answer = call(&mut after).map_err(|r| r.number);
+        let why = format!("call {i} of {forest:?}");
+        match (allowed, sound_before) {
+            (false, _) => assert_eq!(answer, Err(6), "{why}"),
+            (true, false) => assert_eq!(answer, Err(11), "{why}"),
+            (true, true) => assert!(matches!(answer, Ok(()) | Err(5)) || reading && answer == Err(9), "{why}: {answer:?}"),
+        }
+        let changed = changes && (answer == Ok(()) || answer == Err(9));
+        assert!(if changed { sound(&after) } else { after == *forest }, "{why}");
+    }
+}
+
 #[test]
 fn single_words_changed() {
     let mut dice = Dice::new(7);
@@ -210,20 +239,9 @@ fn single_words_changed() {
                 _ => changed.state[3 + dice.below(4) as usize] = value,
             }
             let expected = sound(&changed);
-            let before = changed.clone();
-            // An empty block, a question or opening: whichever the stage allows.
-            let answer = match changed.state[2] {
-                0 | 2 => changed.take(&[]),
-                _ => changed.clone().open_reading(),
-            };
-            if expected {
-                assert_eq!(answer, Ok(()), "{before:?}");
-                still += 1;
-            } else {
-                refused(answer, 11, 0);
-                broken += 1;
-            }
-            assert_eq!(changed, before);
+            every_call(&changed, expected);
+            still += expected as usize;
+            broken += !expected as usize;
         }
     }
     println!("words changed: still a state {still}, refused with 11 {broken}");

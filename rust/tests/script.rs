@@ -2,6 +2,7 @@
 //! a stand-in for `rt` and for the program, so that each way a build or a program can end is tried in no time.
 
 use std::fs;
+use std::io::{BufRead, BufReader};
 use std::os::unix::fs::PermissionsExt;
 use std::path::{Path, PathBuf};
 use std::process::{Command, Output, Stdio};
@@ -102,18 +103,30 @@ fn what_goes_wrong() {
     ended(&silent.call("a list.sev"), 3, "", "is gone");
 }
 
-/// A build that takes a while says what it is at; a second run waits for it, does not build beside it, and has nothing to say of what is proved.
+/// A build that takes a while says what it is at; a second run waits for it and does not build beside it. The stand-in for `rt` goes on when it
+/// finds a file, and by itself after a while.
 #[test]
 fn progress() {
-    let rt = "cd target\n[ ! -e busy ] || exit 7\n\
-              if [ -e built ]; then echo 'rt: numbers proved (unchanged since it was last proved)' >log/numbers.out; sleep 3; exit 0; fi\n\
-              touch busy\n: >log/numbers.out\nsleep 3\necho 'rt: numbers proved (3 s)' >log/numbers.out\nsleep 3\nrm busy\ntouch built";
+    let rt = "await() { i=0; while [ ! -e $1 ] && [ $i -lt 300 ]; do sleep 0.1; i=$((i + 1)); done; }\n\
+              cd target\n[ ! -e busy ] || exit 7\n[ ! -e end ] || exit 0\n\
+              touch busy\n: >log/numbers.out\nawait go\necho 'rt: numbers proved (3 s)' >log/numbers.out\nawait end\nrm busy";
     let slow = Stand::new("slow", rt, "echo fragments 1");
-    let run = || slow.command("a list.sev").stdout(Stdio::piped()).stderr(Stdio::piped()).spawn().unwrap();
-    let both = [run(), run()].map(|run| run.wait_with_output().unwrap());
-    assert!(both.iter().all(|out| out.status.code() == Some(0) && out.stdout == b"fragments 1\n"), "{both:?}");
-    let mut said = both.map(|out| String::from_utf8(out.stderr).unwrap());
-    said.sort();
-    assert_eq!(said[0], "report: another run is proving the program: waiting for it\n");
-    assert!(said[1].ends_with("once\nreport: proving numbers\nreport: numbers proved (3 s)\n"), "{said:?}");
+    let run = || {
+        let mut run = slow.command("a list.sev").stdout(Stdio::piped()).stderr(Stdio::piped()).spawn().unwrap();
+        let said = BufReader::new(run.stderr.take().unwrap()).lines().map(|line| line.unwrap());
+        (run, said)
+    };
+    let told = |name: &str| fs::write(slow.0.join("target").join(name), []).unwrap();
+    let (first, mut said) = run();
+    assert!(said.next().unwrap().ends_with("is done once"));
+    assert_eq!(said.next().unwrap(), "report: proving numbers");
+    let (second, mut waits) = run();
+    assert_eq!(waits.next().unwrap(), "report: another run is proving the program: waiting for it");
+    told("go");
+    assert_eq!(said.next().unwrap(), "report: numbers proved (3 s)");
+    told("end");
+    for (run, mut rest) in [(first, said), (second, waits)] {
+        let out = run.wait_with_output().unwrap();
+        assert_eq!((out.status.code(), &out.stdout[..], rest.next()), (Some(0), &b"fragments 1\n"[..], None));
+    }
 }
