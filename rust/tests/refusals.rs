@@ -194,7 +194,7 @@ fn every_call(forest: &Forest, sound_before: bool) {
 fn single_words_changed() {
     let mut dice = Dice::new(7);
     let (mut still, mut broken) = (0, 0);
-    for round in 0..4_000u32 {
+    for round in 0..2_000u32 {
         let n = 1 + dice.below(9);
         let k = 1 + dice.below(3);
         let links = list(&mut dice, n, round % 4);
