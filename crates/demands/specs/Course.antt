@@ -6,14 +6,8 @@ use mathlib.Core.List.{List, [], _∷_, _++_, map}
 use lib.ListN.{length}
 use Rattle.base.specs.Answer.{gives}
 use Rattle.lists.specs.List.{blockLinks}
-use Rattle.rules.specs.Links.{Link, Links}
-use Rattle.rules.specs.Laws.Partial.{Tells}
-use Rattle.demands.specs.Run.{Call, take, close, openReading, Moment, step}
-
--- Calls one after another.
-unfoldable pub after : Moment → List Call → Moment
-after m [] = m
-after m (c ∷ cs) = after (step m c) cs
+use Rattle.rules.specs.Links.{Link, Links, Tells}
+use Rattle.demands.specs.Run.{Call, take, close, openReading}
 
 -- Blocks that, taken one after another where e entries came before, are accepted and add up to a list of links of n fragments.
 pub data Adds (n : ℕ) : ℕ → List (List ℕ) → List Link → Type 0 where

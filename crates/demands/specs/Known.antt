@@ -27,7 +27,8 @@ use Rattle.state.specs.Take.{tell, taken, takeIn, takeCall}
 use Rattle.state.specs.Close.{Ending, openCall, endBuilding, endReading, closeIn, closeCall}
 use Rattle.state.specs.Ask.{askOne, askTwo, parentCall, cutCall, soleCall}
 use Rattle.state.specs.declared.State.{State}
-use Rattle.demands.specs.Run.{start, adopt as adopts, take, close, openReading, Moment, afterTake, afterClose, afterOpen, closeAt, step, begunBy, opening}
+use Rattle.demands.specs.Run.{start, adopt as adopts, take, close, openReading, Moment, afterTake, afterClose, afterOpen, begunBy, opening}
+use Rattle.demands.specs.Step.{parentAt, cutAt, soleAt, closeAt, step}
 
 -- A question that is refused gives no number, and is no yes.
 abbrev numberIn : Answer ℕ → List ℕ
@@ -40,16 +41,16 @@ yes-in (refuses number place) = false
 
 unfoldable pub parentsTo : Moment → ℕ → List ℕ
 parentsTo m zero = []
-parentsTo m (suc v) = parentsTo m v ++ numberIn (parentCall (m .state) (m .frag) (m .held) v)
+parentsTo m (suc v) = parentsTo m v ++ numberIn (parentAt m v)
 
 -- Sole links, by smaller, then larger end.
 unfoldable pub solesTo : Moment → ℕ → ℕ → List Link
 solesTo m n zero = []
-solesTo m n (suc a) = solesTo m n a ++ map (λ b. (a, b)) (listed (λ b. ltb a b && yes-in (soleCall (m .state) (m .frag) (m .held) a b)) n)
+solesTo m n (suc a) = solesTo m n a ++ map (λ b. (a, b)) (listed (λ b. ltb a b && yes-in (soleAt m a b)) n)
 
 -- What is asked of n fragments after the close of a reading pass.
 unfoldable pub reportedBy : ℕ → Moment → Answer Ending → Result
-reportedBy n m (gives _) = reports (m .state .passes) (parentsTo m n) (solesTo m n n) (listed (λ v. yes-in (cutCall (m .state) (m .frag) (m .held) v)) n)
+reportedBy n m (gives _) = reports (m .state .passes) (parentsTo m n) (solesTo m n n) (listed (λ v. yes-in (cutAt m v)) n)
 reportedBy n m (refuses number place) = refused number
 
 -- A pass that takes one block, and passes one after another.
@@ -67,7 +68,7 @@ readBy n block m =
     reportedBy n (step r close) (closeAt r .answer)
 
 unfoldable pub begunThen : Begun → Answer State → (Moment → Result) → Result
-begunThen b (gives s) next = next (opening s b)
+begunThen b (gives s) next = next (opening s (b .frag) (b .held))
 begunThen b (refuses number place) next = refused number
 
 -- Tables with words of another use in them.
@@ -88,5 +89,5 @@ calledResult (adopt ps g) =
 
 -- The rules' whole table, as one.
 pub known-calls : map (λ r. calledResult (r .instance)) instances ≡ map (λ r. r .result) instances
-unfolding pick between linked tally up depth count some every first least table listed parentOf rank noteOf markOf placed par lev fresh place putNote putMark putHeld putCrossed cleared alone merged piecesFrom pieces member sizeOf heldIn better noteLink hold fill holdLink buildLink buildLinks noted topOf hang nextOf reachNext goBack walkStep walkSteps walked placePath lost placeWalk placePiece placeFrom placePieces closeBuilding done pass passes rootedIn adoptable adopted above hear readLink readLinks seen accepted lowest reach childOf soleBelow sole cut rootOf piece row square triangle instances onto readGroups atMost readUpTo readNumber groupsOf writtenNumber andThen placedAt joins counts readEnds readLinkAt before linksIn linksAt blockLinks writtenLinks section linkIn wordOf tablesIn fragOf heldOf asked allZero stageFits standsAt forestFits endsFit noneTwice quotaFits heldFits noteFits clearAt lowFits notesFit restZero countsFit readFits markFits restAgrees fits sound boundsRefusal headRefusal headed moved leaves startCall adoptRefusal adoptCall tell taken takeIn takeCall openCall endBuilding endReading closeIn closeCall askOne askTwo parentCall cutCall soleCall afterTake afterClose afterOpen step begunBy opening parentsTo solesTo reportedBy passBy passesBy readBy begunThen calledResult
+unfolding pick between linked tally up depth count some every first least table listed parentOf rank noteOf markOf placed par lev fresh place putNote putMark putHeld putCrossed cleared alone merged piecesFrom pieces member sizeOf heldIn better noteLink hold fill holdLink buildLink buildLinks noted topOf hang nextOf reachNext goBack walkStep walkSteps walked placePath lost placeWalk placePiece placeFrom placePieces closeBuilding done pass passes rootedIn adoptable adopted above hear readLink readLinks seen accepted lowest reach childOf soleBelow sole cut rootOf piece row square triangle instances onto readGroups atMost readUpTo readNumber groupsOf writtenNumber andThen placedAt joins counts readEnds readLinkAt before linksIn linksAt blockLinks writtenLinks section linkIn wordOf tablesIn fragOf heldOf asked allZero stageFits standsAt forestFits endsFit noneTwice quotaFits heldFits noteFits clearAt lowFits notesFit restZero countsFit readFits markFits restAgrees fits sound boundsRefusal headRefusal headed moved leaves startCall adoptRefusal adoptCall tell taken takeIn takeCall openCall endBuilding endReading closeIn closeCall askOne askTwo parentCall cutCall soleCall afterTake afterClose afterOpen step opening parentsTo solesTo reportedBy passBy passesBy readBy begunThen calledResult
 known-calls = refl

@@ -1,13 +1,9 @@
+pub mod Promises
+pub mod Contracts
 pub mod Run
+pub mod Step
 pub mod Course
 pub mod Claims
 pub mod Known
-pub mod Steps
-pub mod Runs
-pub mod Refusals
-pub mod Results
-pub mod Counts
-pub mod Answers
-pub mod Courses
+pub mod Laws
 pub mod Demands
-pub mod Met

@@ -2,9 +2,7 @@
 -- Assumes nothing.
 use Prim.Native.Nat.{ℕ, suc}
 use mathlib.Core.Path.{_≡_}
-use mathlib.Core.Bool.{Bool, true, false}
 use mathlib.Core.List.{List, [], _∷_, _++_}
-use lib.Dec.{eqb}
 use Rattle.base.specs.Pick.{pick}
 use Rattle.base.specs.Answer.{Answer, gives, refuses}
 use Rattle.lists.specs.List.{blockLinks}
@@ -18,17 +16,18 @@ use Rattle.state.specs.Test.{isBuilding}
 use Rattle.state.specs.Call.{Begun, Left}
 use Rattle.state.specs.Start.{startCall}
 use Rattle.state.specs.Adopt.{adoptCall}
-use Rattle.state.specs.Take.{takeCall}
-use Rattle.state.specs.Close.{Ending, more, whole, read, openCall, closeCall}
-use Rattle.state.specs.Ask.{parentCall, levelCall, pieceCall, cutCall, soleCall}
+use Rattle.state.specs.Close.{Ending, more, whole, read}
+use Rattle.state.specs.Told.{takenTold, closedTold}
 use Rattle.state.specs.declared.State.{State}
+use Rattle.state.specs.declared.Started.the-variants.{Ready}
+use Rattle.demands.specs.Promises.{Begins, TakeAnswer, OpenAnswer, CloseAnswer, ParentAnswer, LevelAnswer, PieceAnswer, SoleAnswer, CutAnswer, endsBuilding, changes}
 
 -- The call that a run begins with.
 pub data Origin : Type 0 where
   start : (n k : ℕ) → Origin
   adopt : (n k : ℕ) (parents : List ℕ) → Origin
 
--- The calls that may follow it, in any order. The questions are asked of a moment and change nothing: their definitions leave no state and no table.
+-- The calls that may follow it, in any order. The questions are asked of a moment and change nothing.
 pub data Call : Type 0 where
   take : (block : List ℕ) → Call
   close : Call
@@ -50,19 +49,19 @@ heard (gives _) (gives links) = links
 heard (gives _) (refuses number place) = []
 heard (refuses number place) links = []
 
--- An accepted Building close: it answers more or done.
-abbrev pub endsBuilding : Answer Ending → Bool
-endsBuilding (gives more) = true
-endsBuilding (gives whole) = true
-endsBuilding (gives read) = false
-endsBuilding (refuses number place) = false
+-- A Building close that is accepted tells its pass.
+abbrev pub nowTold : Answer Ending → List (List Link) → List Link → List (List Link)
+nowTold (gives more) told g = told ++ (g ∷ [])
+nowTold (gives whole) told g = told ++ (g ∷ [])
+nowTold (gives read) told g = told
+nowTold (refuses number place) told g = told
 
--- The pass is read and its list stays, or it goes on because the close was refused; else a new pass begins.
+-- The pass is read and its list stays, or it goes on because the close was refused and changed nothing; else a new pass begins.
 abbrev pub staysTold : Answer Ending → List Link → List Link
 staysTold (gives more) g = []
 staysTold (gives whole) g = []
 staysTold (gives read) g = g
-staysTold (refuses number place) g = pick (eqb number 9) [] g
+staysTold (refuses number place) g = pick (changes number) [] g
 
 abbrev pub clearsTold : Answer (Unit {0}) → List Link → List Link
 clearsTold (gives _) g = []
@@ -77,71 +76,84 @@ afterClose m l = record {
   state = l .state;
   frag = l .frag;
   held = l .held;
-  told = pick (endsBuilding (l .answer)) (m .told ++ (m .telling ∷ [])) (m .told);
+  told = nowTold (l .answer) (m .told) (m .telling);
   telling = staysTold (l .answer) (m .telling);
 }
 
 unfoldable pub afterOpen : Moment → Left (Unit {0}) → Moment
 afterOpen m l = record { state = l .state; frag = l .frag; held = l .held; told = m .told; telling = clearsTold (l .answer) (m .telling) }
 
--- The answers of the calls at a moment.
-abbrev pub takeAt : Moment → List ℕ → Left (Unit {0})
-takeAt m block = takeCall (m .state) (m .frag) (m .held) block
+-- What is answered at a moment.
+abbrev pub TakeAt : Moment → List ℕ → Type 0
+TakeAt m block = TakeAnswer (m .state) (m .frag) (m .held) block
 
-abbrev pub closeAt : Moment → Left Ending
-closeAt m = closeCall (m .state) (m .frag) (m .held)
+abbrev pub CloseAt : Moment → Type 0
+CloseAt m = CloseAnswer (m .state) (m .frag) (m .held)
 
-abbrev pub openAt : Moment → Left (Unit {0})
-openAt m = openCall (m .state) (m .frag) (m .held)
+abbrev pub OpenAt : Moment → Type 0
+OpenAt m = OpenAnswer (m .state) (m .frag) (m .held)
 
--- The questions at a moment.
-abbrev pub parentAt : Moment → ℕ → Answer ℕ
-parentAt m v = parentCall (m .state) (m .frag) (m .held) v
+abbrev pub ParentAt : Moment → ℕ → Type 0
+ParentAt m v = ParentAnswer (m .state) (m .frag) (m .held) v
 
-abbrev pub levelAt : Moment → ℕ → Answer ℕ
-levelAt m v = levelCall (m .state) (m .frag) (m .held) v
+abbrev pub LevelAt : Moment → ℕ → Type 0
+LevelAt m v = LevelAnswer (m .state) (m .frag) (m .held) v
 
-abbrev pub pieceAt : Moment → ℕ → Answer ℕ
-pieceAt m v = pieceCall (m .state) (m .frag) (m .held) v
+abbrev pub PieceAt : Moment → ℕ → Type 0
+PieceAt m v = PieceAnswer (m .state) (m .frag) (m .held) v
 
-abbrev pub cutAt : Moment → ℕ → Answer Bool
-cutAt m v = cutCall (m .state) (m .frag) (m .held) v
+abbrev pub CutAt : Moment → ℕ → Type 0
+CutAt m v = CutAnswer (m .state) (m .frag) (m .held) v
 
-abbrev pub soleAt : Moment → ℕ → ℕ → Answer Bool
-soleAt m a b = soleCall (m .state) (m .frag) (m .held) a b
+abbrev pub SoleAt : Moment → ℕ → ℕ → Type 0
+SoleAt m a b = SoleAnswer (m .state) (m .frag) (m .held) a b
 
--- What a call leaves of a moment.
-unfoldable pub step : Moment → Call → Moment
-step m (take block) = afterTake m (blockLinks (m .state .n) (m .state .entries) block) (takeAt m block)
-step m close = afterClose m (closeAt m)
-step m openReading = afterOpen m (openAt m)
+-- What a call at a moment may answer,
+abbrev pub Answered : Moment → Call → Type 0
+Answered m (take block) = TakeAt m block
+Answered m close = CloseAt m
+Answered m openReading = OpenAt m
 
--- The first call, on tables as they were lent.
-unfoldable pub begunBy : Origin → List ℕ → List ℕ → Begun
+-- and the moment that comes of it: the state that the answer has, or the one before where it is a plain refusal; the tables as left.
+unfoldable pub next : (m : Moment) (c : Call) → Answered m c → Moment
+next m (take block) a = afterTake m (blockLinks (m .state .n) (m .state .entries) block) (takenTold (m .state) (a .answer) (a .frag) (a .held))
+next m close a = afterClose m (closedTold (m .state) (a .answer) (a .frag) (a .held))
+next m openReading a = afterOpen m (takenTold (m .state) (a .answer) (a .frag) (a .held))
+
+-- What the first call is to leave, on tables as they were lent.
+abbrev pub begunBy : Origin → List ℕ → List ℕ → Begun
 begunBy (start n k) f h = startCall n k f h
 begunBy (adopt n k ps) f h = adoptCall n k ps f h
 
-unfoldable pub opening : State → Begun → Moment
-opening s b = record { state = s; frag = b .frag; held = b .held; told = []; telling = [] }
+abbrev pub BeginAnswer : Origin → List ℕ → List ℕ → Type 0
+BeginAnswer o f h = Begins (begunBy o f h)
 
--- A run has come to a moment: an accepted first call, then any calls, refused ones included.
+unfoldable pub opening : State → List ℕ → List ℕ → Moment
+opening s f h = record { state = s; frag = f; held = h; told = []; telling = [] }
+
+-- A run has come to a moment: an accepted first call, then any calls, refused ones included, with whatever they answered.
 pub data Run (o : Origin) : Moment → Type 0 where
-  begins : (f h : List ℕ) (s : State) → begunBy o f h .answer ≡ gives s → Run o (opening s (begunBy o f h))
-  goes : {m : Moment} → Run o m → (c : Call) → Run o (step m c)
+  begins : (f h : List ℕ) (a : BeginAnswer o f h) (s : State) → a .answer ≡ Ready s → Run o (opening s (a .frag) (a .held))
+  goes : {m : Moment} → Run o m → (c : Call) (a : Answered m c) → Run o (next m c a)
+
+-- The calls of a run after the first.
+unfoldable pub calls : {o : Origin} {m : Moment} → Run o m → List Call
+calls (begins f h a s e) = []
+calls (goes r c a) = calls r ++ (c ∷ [])
+
+-- How many of some calls are closes.
+unfoldable pub closesIn : List Call → ℕ
+closesIn [] = 0
+closesIn (take block ∷ cs) = closesIn cs
+closesIn (close ∷ cs) = suc (closesIn cs)
+closesIn (openReading ∷ cs) = closesIn cs
 
 -- How many closes of a run were accepted in Building.
 unfoldable pub acceptedCloses : {o : Origin} {m : Moment} → Run o m → ℕ
-acceptedCloses (begins f h s e) = 0
-acceptedCloses (goes r (take block)) = acceptedCloses r
-acceptedCloses (goes {m} r close) = pick (endsBuilding (closeAt m .answer)) (suc (acceptedCloses r)) (acceptedCloses r)
-acceptedCloses (goes r openReading) = acceptedCloses r
-
--- How many closes were called.
-unfoldable pub calledCloses : {o : Origin} {m : Moment} → Run o m → ℕ
-calledCloses (begins f h s e) = 0
-calledCloses (goes r (take block)) = calledCloses r
-calledCloses (goes r close) = suc (calledCloses r)
-calledCloses (goes r openReading) = calledCloses r
+acceptedCloses (begins f h a s e) = 0
+acceptedCloses (goes r (take block) a) = acceptedCloses r
+acceptedCloses (goes r close a) = pick (endsBuilding (a .answer)) (suc (acceptedCloses r)) (acceptedCloses r)
+acceptedCloses (goes r openReading a) = acceptedCloses r
 
 -- What the rules make of what was told: of the passes closed since the first call a forest,
 abbrev pub fragments : Origin → ℕ

@@ -3,4 +3,4 @@ pub mod Told
 pub mod Steps
 pub mod Whole
 pub mod Laws
-pub mod Once
+pub mod Unique

@@ -21,9 +21,10 @@ use Rattle.rules.specs.Tables.{Tables, cleared}
 use Rattle.rules.specs.Building.{done}
 use Rattle.rules.specs.Reading.{accepted}
 use Rattle.rules.specs.Adopting.{adoptable}
+use Rattle.rules.specs.Laws.Adopting.{adoptable-exact}
 use Rattle.state.specs.Layout.{tablesIn, heldOf}
 use Rattle.state.specs.Test.{isBuilding, isReading, sound}
-use Rattle.state.specs.Call.{boundsRefusal, Left, headRefusal, headed, moved, leaves}
+use Rattle.state.specs.Call.{boundsRefusal, Left, headRefusal, headed, leaves}
 use Rattle.state.specs.Adopt.{adoptedState, adoptRefusal, adoptCall}
 use Rattle.state.specs.Take.{takes, taken, takeIn, takeCall}
 use Rattle.state.specs.Close.{opens, openCall, Ending, endBuilding, endReading, closeIn, closeCall}
@@ -34,7 +35,7 @@ use Rattle.state.specs.Laws.KeepsBegun.{adopt-makes}
 use Rattle.state.specs.Laws.KeepsTables.{reads-settled}
 use Rattle.state.specs.declared.State.{State}
 use Rattle.state.specs.declared.Stage.{Stage}
-use Rattle.demands.specs.Claims.{NotesLost}
+use Rattle.demands.specs.Claims.{Leading, NotesLost}
 
 none-held : (l : List Link) → length l ≡ 0 → l ≡ []
 none-held [] e = refl
@@ -64,26 +65,31 @@ module _ (s : State) (f h : List ℕ) where
 
   -- Refusal 9.
   abbrev Loses : Left Ending → Type 0
-  Loses l = (place : ℕ) → l .answer ≡ refuses 9 place → NotesLost s f h l
+  Loses l = (place : ℕ) → l .answer ≡ refuses 9 place → (place ≡ 0) × NotesLost s f h (l .state) (l .frag) (l .held)
 
   number-is : {A : Type 0} {r p q t : ℕ} → _≡_ {A = Answer A} (refuses r p) (refuses q t) → r ≡ q
   number-is e = cc
+
+  place-is : {A : Type 0} {r p q t : ℕ} → _≡_ {A = Answer A} (refuses r p) (refuses q t) → p ≡ t
+  place-is e = cc
 
   building-loses : (t : Tables) → Loses (endBuilding s t f h)
   unfolding endBuilding leaves
   building-loses t = pick-all Loses (done (s .n) t) _ _ (λ place e. absurd (never-both refl e)) (λ place e. absurd (never-both refl e))
 
   reading-loses : Head takes s f h → T (isReading (s .stage)) → Loses (endReading s (tablesIn s f h) f h)
-  unfolding endReading leaves moved cleared
+  unfolding endReading leaves
   reading-loses H r = pick-all Loses (accepted (s .n) (tablesIn s f h)) _ _ (λ place e. absurd (never-both refl e)) (λ place e.
-      let S = sound-known s f h (H .bounds) (H .passes .tested) in
-      record {
-        was-reading = r;
-        state-after = refl;
-        frag-before = frag-found s f h (H .bounds) S;
-        frag-after = refl;
-        held-after = held-alike (s .n) (s .k) h (tablesIn s f h) (none-held (tablesIn s f h .held) (omega (arith, S .agrees .as-many, S .agrees .none-held (reads-settled (s .stage) r)))) ∙ sym (held-found s f h (H .bounds) S);
-      })
+      let S = sound-known s f h (H .bounds) (H .passes .tested) in (
+        sym (place-is e),
+        record {
+          was-reading = r;
+          state-after = refl;
+          frag-before = frag-found s f h (H .bounds) S;
+          frag-after = refl;
+          held-after = held-alike (s .n) (s .k) h (tablesIn s f h) (none-held (tablesIn s f h .held) (omega (arith, S .agrees .as-many, S .agrees .none-held (reads-settled (s .stage) r)))) ∙ sym (held-found s f h (H .bounds) S);
+        },
+      ))
 
   pub close-loses : Loses (closeCall s f h)
   unfolding closeCall closeIn
@@ -96,6 +102,9 @@ module _ (s : State) (f h : List ℕ) where
         ])
       ])
       (λ r d place e. absurd (d (number-is e)))
+
+  pub nine-at : (place : ℕ) → closeCall s f h .answer ≡ refuses 9 place → place ≡ 0
+  nine-at place e = close-loses place e .0
 
 -- Every refusal that an answer may be has a property.
 abbrev pub Only : (ℕ → Type 0) → {A : Type 0} → Answer A → Type 0
@@ -248,10 +257,10 @@ module _ (n k : ℕ) (ps f h : List ℕ) (b : boundsRefusal n k (length f) (leng
   unfolding adoptRefusal
   adopt-due = rw b (simp tests)
 
-  pub adopt-good : T (adoptable n ps) → adoptCall n k ps f h .answer ≡ gives (adoptedState n k)
+  pub adopt-good : Leading n ps → adoptCall n k ps f h .answer ≡ gives (adoptedState n k)
   unfolding pick
-  adopt-good q = adopt-makes n k f h ps (adopt-due ∙ rw (T-true (adoptable n ps) q) refl) .0
+  adopt-good q = adopt-makes n k f h ps (adopt-due ∙ rw (T-true (adoptable n ps) (adoptable-exact n ps .1 q)) refl) .0
 
-  pub adopt-ten : (T (adoptable n ps) → ⊥) → adoptCall n k ps f h .answer ≡ refuses 10 0
+  pub adopt-ten : (Leading n ps → ⊥) → adoptCall n k ps f h .answer ≡ refuses 10 0
   unfolding adoptCall pick
-  adopt-ten q = rw (adopt-due, T-false (adoptable n ps) q) refl
+  adopt-ten q = rw (adopt-due, T-false (adoptable n ps) (λ t. q (adoptable-exact n ps .0 t))) refl

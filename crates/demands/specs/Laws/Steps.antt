@@ -20,7 +20,8 @@ use Rattle.state.specs.Laws.Keeps.{Passes, headed-on, headed-off}
 use Rattle.state.specs.Laws.KeepsLeft.{take-makes, open-makes, whole-makes, more-makes, read-makes, false-makes}
 use Rattle.state.specs.declared.State.{State}
 use Rattle.state.specs.declared.Stage.the-variants.{Building, Built, Reading, Read}
-use Rattle.demands.specs.Run.{take, close, openReading, Moment, afterTake, afterClose, afterOpen, step, tablesAt}
+use Rattle.demands.specs.Run.{take, close, openReading, Moment, afterTake, afterClose, afterOpen, tablesAt}
+use Rattle.demands.specs.Step.{step}
 
 -- A call that was accepted, or refused with 9, leads to a state, to words that hold the tables t, and to what was told.
 pub record Leads (m : Moment) (s : State) (t : Tables) (told : List (List Link)) (telling : List Link) : Type 0 where

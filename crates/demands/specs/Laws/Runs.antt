@@ -15,14 +15,13 @@ use Rattle.base.specs.Truth.{or-cases, T-dec, T-true, T-false}
 use Rattle.lists.specs.List.{blockLinks}
 use Rattle.lists.specs.Link.{never-both, answered}
 use Rattle.lists.specs.Laws.{accepted-sound}
-use Rattle.rules.specs.Links.{Link, linked, Among}
+use Rattle.rules.specs.Links.{Link, linked, Among, Each}
 use Rattle.rules.specs.Tables.{Tables, cleared}
 use Rattle.rules.specs.Building.{buildLinks, closeBuilding, done, pass, passes}
 use Rattle.rules.specs.Reading.{readLinks, accepted}
-use Rattle.rules.specs.Laws.Facts.{Standing, Rested}
+use Rattle.rules.specs.Facts.{Standing, Rested}
 use Rattle.rules.specs.Laws.Links.{among-nil}
 use Rattle.rules.specs.Laws.Tables.{fresh-rested}
-use Rattle.rules.specs.Laws.Partial.{Each}
 use Rattle.rules.specs.Laws.Reading.{read-append, read-forest}
 use Rattle.rules.specs.Laws.Adopting.{adopted-rested}
 use Rattle.rules.specs.Laws.Append.{build-append, among-append, passes-snoc, each-snoc, passes-stand, cleared-same, rested-cleared}
@@ -40,10 +39,13 @@ use Rattle.state.specs.Laws.KeepsTables.{among-links, reads-settled}
 use Rattle.state.specs.Laws.KeepsCalls.{upholds-on, take-keeps, open-keeps, close-keeps}
 use Rattle.state.specs.Laws.KeepsBegun.{MakesState, start-keeps, start-makes, adopt-keeps, adopt-makes}
 use Rattle.state.specs.declared.State.{State}
+use Rattle.state.specs.declared.Started.the-variants.{Ready}
 use Rattle.state.specs.declared.Stage.{Stage}
 use Rattle.state.specs.declared.Stage.the-variants.{Building, Built, Reading, Read}
-use Rattle.demands.specs.Run.{Origin, start, adopt, Call, take, close, openReading, Moment, afterTake, afterClose, afterOpen, step, begunBy, opening, Run, begins, goes, fragments, roomFor, firstTables, forestOf, tablesOf, tablesAt}
-use Rattle.demands.specs.Steps.{Leads, take-off, take-bad, take-on, open-off, open-on, close-off, whole-on, more-on, read-on, false-on}
+use Rattle.demands.specs.Run.{Origin, start, adopt, Call, take, close, openReading, Moment, afterTake, afterClose, afterOpen, BeginAnswer, begunBy, opening, Run, begins, goes, fragments, roomFor, firstTables, forestOf, tablesOf, tablesAt}
+use Rattle.demands.specs.Step.{step}
+use Rattle.demands.specs.Laws.Answered.{next-step, begun-ready}
+use Rattle.demands.specs.Laws.Steps.{Leads, take-off, take-bad, take-on, open-off, open-on, close-off, whole-on, more-on, read-on, false-on}
 
 -- What holds at a moment.
 pub record Holds (o : Origin) (m : Moment) : Type 0 where
@@ -221,21 +223,17 @@ module _ {o : Origin} {m : Moment} (H : Holds o m) where
   ]
 
 -- The first call.
-pub given-same : {A : Type 0} {x y : A} → gives x ≡ gives y → x ≡ y
-given-same e = cc
-
-module _ (o : Origin) (b : Begun) (s : State) (e : b .answer ≡ gives s) (p : Passes s (b .frag) (b .held)) (R : Rested (fragments o) (firstTables o)) where
-  first-tables : tablesOf o (opening s b) ≡ firstTables o
+module _ (o : Origin) (b : Begun) (s : State) (p : Passes s (b .frag) (b .held)) (R : Rested (fragments o) (firstTables o)) where
+  first-tables : tablesOf o (opening s (b .frag) (b .held)) ≡ firstTables o
   unfolding opening forestOf passes
   first-tables = elim (T-dec (isBuilding (s .stage))) [
-    | yes c ↦ building-none o (opening s b) c refl
-    | no c ↦ settled-none o (opening s b) c refl ∙ rested-cleared R
+    | yes c ↦ building-none o (opening s (b .frag) (b .held)) c refl
+    | no c ↦ settled-none o (opening s (b .frag) (b .held)) c refl ∙ rested-cleared R
   ]
 
-  opened : (s₀ : State) → MakesState b s₀ (firstTables o) → s₀ .n ≡ fragments o → s₀ .k ≡ roomFor o → s₀ .passes ≡ 0 → s₀ .entries ≡ 0 → Holds o (opening s b)
+  opened : (s₀ : State) → s ≡ s₀ → MakesState b s₀ (firstTables o) → s₀ .n ≡ fragments o → s₀ .k ≡ roomFor o → s₀ .passes ≡ 0 → s₀ .entries ≡ 0 → Holds o (opening s (b .frag) (b .held))
   unfolding opening
-  opened s₀ (a, t) n k c z =
-      let q : s ≡ s₀ = given-same (sym e ∙ a) in
+  opened s₀ q (a, t) n k c z =
       let t′ : tablesIn s (b .frag) (b .held) ≡ firstTables o = rw q t in
       let S = sound-known s (b .frag) (b .held) (bounds-known (s .n) (s .k) (length (b .frag)) (length (b .held)) (p .in-bounds)) (p .tested) .agrees .standing in
       let n′ : s .n ≡ fragments o = rw q n in
@@ -263,21 +261,39 @@ start-accepted : (n k : ℕ) (f h : List ℕ) (s : State) → startCall n k f h 
 unfolding startCall
 start-accepted n k f h s e = none-met _ _ _ s refl e
 
-pub adopt-accepted : (n k : ℕ) (ps f h : List ℕ) (s : State) → adoptCall n k ps f h .answer ≡ gives s → adoptRefusal n k ps (length f) (length h) ≡ 0
+adopt-accepted : (n k : ℕ) (ps f h : List ℕ) (s : State) → adoptCall n k ps f h .answer ≡ gives s → adoptRefusal n k ps (length f) (length h) ≡ 0
 unfolding adoptCall
 adopt-accepted n k ps f h s e = none-met _ _ _ s refl e
 
-begins-hold : (o : Origin) (f h : List ℕ) (s : State) → begunBy o f h .answer ≡ gives s → Holds o (opening s (begunBy o f h))
-unfolding begunBy
-begins-hold (start n k) f h s e =
-    opened (start n k) (startCall n k f h) s e (start-keeps n k f h .keeps s e) (fresh-rested n) (started n k)
+-- The state that it gives.
+abbrev pub firstState : Origin → State
+firstState (start n k) = started n k
+firstState (adopt n k ps) = adoptedState n k
+
+pub begun-state : (o : Origin) (f h : List ℕ) (s : State) → begunBy o f h .answer ≡ gives s → s ≡ firstState o
+begun-state (start n k) f h s e = let given = sym e ∙ start-makes n k f h (start-accepted n k f h s e) .0 in cc
+begun-state (adopt n k ps) f h s e = let given = sym e ∙ adopt-makes n k f h ps (adopt-accepted n k ps f h s e) .0 in cc
+
+begun-holds : (o : Origin) (f h : List ℕ) (s : State) → begunBy o f h .answer ≡ gives s → Holds o (opening s (begunBy o f h .frag) (begunBy o f h .held))
+begun-holds (start n k) f h s e =
+    opened (start n k) (startCall n k f h) s (start-keeps n k f h .keeps s e) (fresh-rested n) (started n k) (begun-state (start n k) f h s e)
     (start-makes n k f h (start-accepted n k f h s e)) refl refl refl refl
-begins-hold (adopt n k ps) f h s e =
-    opened (adopt n k ps) (adoptCall n k ps f h) s e (adopt-keeps n k f h ps .keeps s e) (adopted-rested n ps) (adoptedState n k)
+begun-holds (adopt n k ps) f h s e =
+    opened (adopt n k ps) (adoptCall n k ps f h) s (adopt-keeps n k f h ps .keeps s e) (adopted-rested n ps) (adoptedState n k) (begun-state (adopt n k ps) f h s e)
     (adopt-makes n k f h ps (adopt-accepted n k ps f h s e)) refl refl refl refl
 
+pub step-holds : {o : Origin} {m : Moment} → Holds o m → (c : Call) → Holds o (step m c)
+step-holds H (take block) = take-holds H block
+step-holds H close = close-holds H
+step-holds H openReading = open-holds H
+
+-- What the answer of a first call leaves is what its definition leaves.
+pub opening-same : (o : Origin) (f h : List ℕ) (a : BeginAnswer o f h) (s : State) → a .answer ≡ Ready s → opening s (begunBy o f h .frag) (begunBy o f h .held) ≡ opening s (a .frag) (a .held)
+opening-same o f h a s e = let (_, p, q) = begun-ready a s e in λ i. opening s (sym p i) (sym q i)
+
+pub begins-hold : (o : Origin) (f h : List ℕ) (a : BeginAnswer o f h) (s : State) → a .answer ≡ Ready s → Holds o (opening s (a .frag) (a .held))
+begins-hold o f h a s e = subst (Holds o) (opening-same o f h a s e) (begun-holds o f h s (begun-ready a s e .0))
+
 pub run-holds : {o : Origin} {m : Moment} → Run o m → Holds o m
-run-holds {o} (begins f h s e) = begins-hold o f h s e
-run-holds (goes r (take block)) = take-holds (run-holds r) block
-run-holds (goes r close) = close-holds (run-holds r)
-run-holds (goes r openReading) = open-holds (run-holds r)
+run-holds {o} (begins f h a s e) = begins-hold o f h a s e
+run-holds (goes {m} r c a) = rw (next-step m c a) (step-holds (run-holds r) c)
