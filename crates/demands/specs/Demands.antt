@@ -13,12 +13,12 @@ use Rattle.base.specs.Answer.{Answer, gives}
 use Rattle.base.specs.Truth.{T-dec}
 use Rattle.numbers.specs.Number.{readNumber, writtenNumber, Numeral, writeNumber}
 use Rattle.numbers.specs.Words.{Bytes}
-use Rattle.numbers.specs.Laws.{written-read, number-form}
+use Rattle.numbers.specs.Theorems.{written-read, number-form}
 use Rattle.numbers.specs.declared.Refusal.{Refusal}
 use Rattle.lists.specs.List.{andThen, blockLinks}
 use Rattle.lists.specs.Words.{shifted}
-use Rattle.lists.specs.Link.{never-both}
-use Rattle.lists.specs.Laws.{blocks-join}
+use Rattle.lists.specs.Laws.Link.{never-both}
+use Rattle.lists.specs.Theorems.{blocks-join}
 use Rattle.rules.specs.Links.{Link, Links, linked, SameSet, Tells, Each}
 use Rattle.rules.specs.Forest.{DepthFirst}
 use Rattle.rules.specs.Removal.{PieceIn}

@@ -16,7 +16,7 @@ use Rattle.base.specs.Pick.{pick, pick-true, pick-false, tests}
 use Rattle.base.specs.Answer.{Answer, gives, refuses}
 use Rattle.base.specs.Truth.{T-true}
 use Rattle.numbers.specs.Number.{Wrote}
-use Rattle.lists.specs.Link.{never-both}
+use Rattle.lists.specs.Laws.Link.{never-both}
 use Rattle.rules.specs.Tables.{Tables, parentOf, placed, par}
 use Rattle.rules.specs.Reading.{piece, cut, sole, soleBelow, childOf, reach}
 use Rattle.state.specs.Layout.{tablesIn}

@@ -2,7 +2,7 @@
 ghost use mathlib.Core.Path.{_≡_};
 ghost use Prim.Native.Nat.{_+_, _*_, _<_, _≤_};
 ghost use lib.ListN.{length};
-ghost use Rattle.numbers.specs.Told.{wrote};
+ghost use Rattle.numbers.specs.Answers.{wrote};
 ghost use Rattle.rules.specs.Tables.{parentOf};
 ghost use Rattle.state.specs.Layout.{tablesIn};
 ghost use Rattle.state.specs.Told.{askedTold, judgedTold};

@@ -1,7 +1,7 @@
 // The lines of the report: what the questions answer, as text.
 ghost use mathlib.Core.Path.{_≡_};
 ghost use Rattle.base.specs.Answer.{refuses};
-ghost use Rattle.numbers.specs.Told.{toldEnd, wrote};
+ghost use Rattle.numbers.specs.Answers.{toldEnd, wrote};
 ghost use Rattle.lines.specs.Report.{refusalLine, noFileLine, store};
 pub use ask::report;
 use numbers::Refusal;

@@ -1,12 +1,8 @@
 pub mod List
-pub mod Told
+pub mod Answers
 pub mod Words
-pub mod Numbers
-pub mod Link
-pub mod Block
 pub mod Scan
-pub mod File
 pub mod Write
-pub mod Parts
 pub mod Laws
-pub mod Once
+pub mod Theorems
+pub mod Unique

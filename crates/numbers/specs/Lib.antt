@@ -1,8 +1,7 @@
 pub mod Number
-pub mod Told
-pub mod Reading
+pub mod Answers
 pub mod Writing
 pub mod Words
-pub mod Groups
 pub mod Laws
-pub mod Once
+pub mod Theorems
+pub mod Unique

@@ -3,7 +3,7 @@ ghost use mathlib.Core.Path.{_≡_};
 ghost use lib.ListN.{getD};
 ghost use Rattle.base.specs.Answer.{refuses};
 ghost use Rattle.numbers.specs.Number.{readNumber, writeNumber};
-ghost use Rattle.numbers.specs.Told.{told, toldEnd, wrote};
+ghost use Rattle.numbers.specs.Answers.{told, toldEnd, wrote};
 ghost use Rattle.numbers.specs.Writing.{Filled};
 
 // The greatest number of groups, and the greatest value.

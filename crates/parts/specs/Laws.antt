@@ -1,24 +1,25 @@
 -- What is proved of parts: a list told in parts, cut at any bytes, is told as a whole.
 -- Assumes nothing.
-use Prim.Native.Nat.{ℕ, zero, suc, _+_, _-_, _<_, _≤_}
+use Prim.Native.Nat.{ℕ, _+_, _-_, _<_, _≤_}
 use mathlib.Core.Bool.{Bool, true, false}
 use mathlib.Core.List.{List, [], _∷_, _++_, append-assoc, append-nil}
 use mathlib.Core.Path.{_≡_, refl, sym, ap, _∙_, subst}
 use native.Mathlib.Omega.{arith}
-use native.Mathlib.Nat.{add-assoc, sub-zero, zero-sub, suc-sub-suc}
+use native.Mathlib.Nat.{add-assoc}
 use lib.Dec.{T}
 use lib.ListN.{length, take, drop, length-append, length-drop}
-use lib.Seq.{take-take, take-nil, take-append-seam, length-take-le}
+use lib.Seq.{take-take, take-append-seam, length-take-le}
 use Rattle.base.specs.Pick.{pick, pick-true, pick-false}
 use Rattle.base.specs.Answer.{Answer, gives, refuses}
 use Rattle.base.specs.Truth.{T-true}
 use Rattle.numbers.specs.Number.{Numeral, readNumber, groupsMost, put}
 use Rattle.numbers.specs.Words.{Whole}
-use Rattle.numbers.specs.Laws.{number-few, number-more, number-ended}
+use Rattle.numbers.specs.Laws.Groups.{drop-take}
+use Rattle.numbers.specs.Theorems.{number-few, number-more, number-ended}
 use Rattle.lists.specs.List.{Link, andThen, blockLinks, cutBlock}
 use Rattle.lists.specs.Words.{shifted}
-use Rattle.lists.specs.Link.{never-both}
-use Rattle.lists.specs.Laws.{parts-join, cut-rest, cut-inside}
+use Rattle.lists.specs.Laws.Link.{never-both}
+use Rattle.lists.specs.Theorems.{parts-join, cut-rest, cut-inside}
 use Rattle.rules.specs.Tables.{Tables}
 use Rattle.rules.specs.Building.{buildLinks}
 use Rattle.rules.specs.Reading.{readLinks}
@@ -188,12 +189,6 @@ module _ (s : State) (f h : List ℕ) (offset : ℕ) (carry : List ℕ) (ps : Li
   rest-refused l = take-bad s f h p c (drop (cutBlock carry) carry) 8 0 (cut-rest (s .n) (s .entries) carry l)
 
 -- What is carried over stands at the front.
-drop-take : (a c : ℕ) (s : List ℕ) → take (c - a) (drop a s) ≡ drop a (take c s)
-drop-take zero c s = rw (sub-zero c)
-drop-take (suc a) zero s = rw (zero-sub (suc a))
-drop-take (suc a) (suc c) [] = take-nil (suc c - suc a)
-drop-take (suc a) (suc c) (x ∷ s) = rw (suc-sub-suc c a) (drop-take a c s)
-
 module _ (b : List ℕ) (len : ℕ) (g : len ≤ length b) where
   pub carried-front : (from : ℕ) → from ≤ len → take (len - from) (carried from len b) ≡ drop from (take len b)
   unfolding carried put

@@ -13,9 +13,9 @@ use lib.Seq.{sets, sets-eq, length-sets, take-suc, getD-set-other, getD-drop, le
 use Rattle.base.specs.Pick.{pick, pick-true, pick-false, tests}
 use Rattle.base.specs.Answer.{Answer, gives, refuses}
 use Rattle.numbers.specs.Number.{Numeral, readNumber, put}
-use Rattle.numbers.specs.Laws.{number-within}
+use Rattle.numbers.specs.Theorems.{number-within}
 use Rattle.lists.specs.List.{cutBlock}
-use Rattle.lists.specs.Laws.{cut-inside}
+use Rattle.lists.specs.Theorems.{cut-inside}
 use Rattle.state.specs.Call.{Left}
 use Rattle.state.specs.Take.{takeCall}
 use Rattle.state.specs.declared.State.{State}

@@ -14,7 +14,7 @@ use lib.Seq.{getD-drop, getD-set-same, getD-set-other, take-set-le, drop-set-lt,
 use Rattle.base.specs.Truth.{T-ext, T-true, T-false}
 use Rattle.base.specs.Answer.{gives}
 use Rattle.lists.specs.List.{scanLink}
-use Rattle.lists.specs.Link.{Accepted, link-told}
+use Rattle.lists.specs.Laws.Link.{Accepted, link-told}
 use Rattle.rules.specs.Links.{Link, linked}
 use Rattle.rules.specs.Laws.Links.{between-here, linked-nil, linked-turn, append-left, snoc-cases, snoc-last}
 use Rattle.state.specs.Layout.{words, linkIn, wordOf}

@@ -13,7 +13,7 @@ use Rattle.base.specs.Pick.{pick-true, tests}
 use Rattle.base.specs.Truth.{and-l, and-r, T-dec, T-true, T-false, true-T}
 use Rattle.base.specs.Answer.{gives, refuses}
 use Rattle.lists.specs.List.{blockLinks, scanBlock}
-use Rattle.lists.specs.Block.{scan-gives, scan-refuses}
+use Rattle.lists.specs.Laws.Block.{scan-gives, scan-refuses}
 use Rattle.rules.specs.Links.{Link}
 use Rattle.rules.specs.Tables.{Tables, placed}
 use Rattle.rules.specs.Building.{buildLinks}

@@ -15,8 +15,8 @@ use lib.Seq.{getD-set-same, getD-set-other, set-getD, drop-set-lt, take-take, dr
 use Rattle.base.specs.Pick.{pick, pick-true, pick-false, tests}
 use Rattle.base.specs.Answer.{Answer, gives, refuses}
 use Rattle.lists.specs.List.{scanLink, linksAt}
-use Rattle.lists.specs.Link.{Accepted, link-read, link-told}
-use Rattle.lists.specs.Block.{links-end, walked, link-there as next-given}
+use Rattle.lists.specs.Laws.Link.{Accepted, link-read, link-told}
+use Rattle.lists.specs.Laws.Block.{links-end, walked, next-given}
 use Rattle.base.specs.Truth.{T-true, T-false}
 use Rattle.rules.specs.Links.{Link, between, linked}
 use Rattle.rules.specs.Tables.{Tables, rank, noteOf, placed, putMark, putHeld}

@@ -11,7 +11,7 @@ use lib.Dec.{T}
 use Rattle.base.specs.Answer.{Answer, gives, refuses}
 use Rattle.numbers.specs.declared.Refusal.{Refusal}
 use Rattle.lists.specs.List.{blockLinks}
-use Rattle.lists.specs.Link.{never-both}
+use Rattle.lists.specs.Laws.Link.{never-both}
 use Rattle.state.specs.Call.{Begun, Left}
 use Rattle.state.specs.Close.{Ending, more, whole, read, closeCall}
 use Rattle.state.specs.Take.{takes}

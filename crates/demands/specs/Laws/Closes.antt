@@ -8,7 +8,7 @@ use lib.Dec.{T, eqb→eq}
 use Rattle.base.specs.Answer.{refuses}
 use Rattle.base.specs.Truth.{T-dec}
 use Rattle.numbers.specs.declared.Refusal.{Refusal}
-use Rattle.lists.specs.Link.{never-both}
+use Rattle.lists.specs.Laws.Link.{never-both}
 use Rattle.rules.specs.Links.{linked}
 use Rattle.rules.specs.Forest.{DepthFirst}
 use Rattle.rules.specs.Tables.{par}

@@ -10,7 +10,7 @@ use lib.ListN.{length, length-append}
 use Rattle.base.specs.Pick.{pick}
 use Rattle.base.specs.Truth.{or-cases, T-dec}
 use Rattle.lists.specs.List.{blockLinks}
-use Rattle.lists.specs.Link.{answered}
+use Rattle.lists.specs.Laws.Link.{answered}
 use Rattle.rules.specs.Links.{Link, linked}
 use Rattle.rules.specs.Forest.{DepthFirst}
 use Rattle.rules.specs.Tables.{par}

@@ -13,8 +13,8 @@ use Rattle.base.specs.Pick.{pick, pick-true, pick-false}
 use Rattle.base.specs.Answer.{gives, refuses}
 use Rattle.base.specs.Truth.{or-cases, T-dec, T-true, T-false}
 use Rattle.lists.specs.List.{blockLinks}
-use Rattle.lists.specs.Link.{never-both, answered}
-use Rattle.lists.specs.Laws.{accepted-sound}
+use Rattle.lists.specs.Laws.Link.{never-both, answered}
+use Rattle.lists.specs.Theorems.{accepted-sound}
 use Rattle.rules.specs.Links.{Link, linked, Among, Each}
 use Rattle.rules.specs.Tables.{Tables, cleared}
 use Rattle.rules.specs.Building.{buildLinks, closeBuilding, done, pass, passes}

@@ -1,6 +1,6 @@
 -- `lists::answered` meets its contract: each answer by its test.
 -- Assumes nothing.
-use Rattle.lists.specs.Scan.{end-bad, end-good}
+use Rattle.lists.specs.Laws.Scan.{end-bad, end-good}
 use Rattle.lists.proofs.answered.Statement.{statement}
 use Rattle.lists.proofs.answered.Tie as tie
 

@@ -1,7 +1,7 @@
 -- `lists::bad_ends` meets its contract: each answer by its tests.
 -- Assumes nothing.
 use native.Mathlib.Omega.{arith}
-use Rattle.lists.specs.Scan.{bad-first, bad-second, bad-same, bad-none}
+use Rattle.lists.specs.Laws.Scan.{bad-first, bad-second, bad-same, bad-none}
 use Rattle.lists.proofs.bad_ends.Statement.{statement}
 use Rattle.lists.proofs.bad_ends.Tie as tie
 

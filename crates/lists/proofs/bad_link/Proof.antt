@@ -2,7 +2,7 @@
 -- Assumes nothing.
 use mathlib.Core.Path.{sym, _∙_}
 use native.Mathlib.Omega.{arith}
-use Rattle.lists.specs.Scan.{link-ends, link-twelve, link-none}
+use Rattle.lists.specs.Laws.Scan.{link-ends, link-twelve, link-none}
 use borrow.Author.Needs.{needs}
 use Rattle.lists.proofs.bad_link.Statement.{statement}
 use Rattle.lists.proofs.bad_link.Tie as tie

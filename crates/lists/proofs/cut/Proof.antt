@@ -6,9 +6,9 @@ use Prim.Native.Nat.{_-_}
 use native.Mathlib.Omega.{arith}
 use lib.ListN.{length}
 use Rattle.lists.specs.List.{cutAt, cutBlock}
-use Rattle.lists.specs.Told.{toldLink}
-use Rattle.lists.specs.Link.{ends-of, ends-not-of, ends-within}
-use Rattle.lists.specs.File.{cut-on, cut-here, cut-all}
+use Rattle.lists.specs.Answers.{toldLink}
+use Rattle.lists.specs.Laws.Link.{ends-of, ends-not-of, ends-within}
+use Rattle.lists.specs.Laws.File.{cut-on, cut-here, cut-all}
 use Rattle.lists.proofs.cut.Statement.{statement}
 use Rattle.lists.proofs.cut.Tie as tie
 

@@ -1,8 +1,8 @@
 -- `lists::ends_at` meets its contract: what the two readings promise, put together.
 -- Assumes nothing.
 use mathlib.Core.Path.{sym, ap, _∙_}
-use Rattle.numbers.specs.Told.{told}
-use Rattle.lists.specs.Link.{ends-are, ends-are-not, no-first, no-second}
+use Rattle.numbers.specs.Answers.{told}
+use Rattle.lists.specs.Laws.Link.{ends-are, ends-are-not, no-first, no-second}
 use borrow.Author.Needs.{needs}
 use Rattle.lists.proofs.ends_at.Statement.{statement}
 use Rattle.lists.proofs.ends_at.Tie as tie

@@ -1,9 +1,9 @@
 -- `lists::link_at` meets its contract: what the reading and the test of a link promise, put together.
 -- Assumes nothing.
 use mathlib.Core.Path.{sym, ap, _∙_}
-use Rattle.lists.specs.Told.{toldLink}
-use Rattle.lists.specs.Link.{ends-of, ends-not-of, link-is-not}
-use Rattle.lists.specs.Scan.{link-bad, link-good, alone-past, alone-read}
+use Rattle.lists.specs.Answers.{toldLink}
+use Rattle.lists.specs.Laws.Link.{ends-of, ends-not-of, link-is-not}
+use Rattle.lists.specs.Laws.Scan.{link-bad, link-good, alone-past, alone-read}
 use borrow.Author.Needs.{needs}
 use Rattle.lists.proofs.link_at.Statement.{statement}
 use Rattle.lists.proofs.link_at.Tie as tie

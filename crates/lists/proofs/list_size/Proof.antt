@@ -5,7 +5,7 @@ use mathlib.Core.Path.{sym, _∙_}
 use Prim.Native.Nat.{_-_}
 use native.Mathlib.Omega.{arith}
 use lib.ListN.{length}
-use Rattle.lists.specs.Write.{Sizing, sizing-starts, size-refused, size-bad, size-on, size-odd, size-end, width-bound}
+use Rattle.lists.specs.Laws.Write.{Sizing, sizing-starts, size-refused, size-bad, size-on, size-odd, size-end, width-bound}
 use Rattle.lists.proofs.list_size.Statement.{statement}
 use Rattle.lists.proofs.list_size.Tie as tie
 

@@ -4,7 +4,7 @@ use borrow.Author.Needs.{needs}
 use mathlib.Core.Path.{_∙_}
 use Prim.Native.Nat.{_-_}
 use lib.ListN.{length}
-use Rattle.lists.specs.Write.{Putting, putting-fits, putting-long, putting-starts, putting-whole, putting-ends, putting-more, putting-on}
+use Rattle.lists.specs.Laws.Write.{Putting, putting-fits, putting-long, putting-starts, putting-whole, putting-ends, putting-more, putting-on}
 use Rattle.lists.proofs.put_list.Statement.{statement}
 use Rattle.lists.proofs.put_list.Tie as tie
 

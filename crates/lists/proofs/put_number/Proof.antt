@@ -1,6 +1,6 @@
 -- `lists::put_number` meets its contract: what the number writer promises where there is room.
 -- Assumes nothing.
-use Rattle.lists.specs.Write.{stored}
+use Rattle.lists.specs.Laws.Write.{stored}
 use borrow.Author.Needs.{needs}
 use Rattle.lists.proofs.put_number.Statement.{statement}
 use Rattle.lists.proofs.put_number.Tie as tie

@@ -1,9 +1,9 @@
 -- `lists::read_list` meets its contract: what the header and the scan promise, put together.
 -- Assumes nothing.
 use mathlib.Core.Path.{sym, ap, _∙_}
-use Rattle.numbers.specs.Told.{told}
-use Rattle.lists.specs.Told.{toldCount}
-use Rattle.lists.specs.File.{file-header, file-size, file-list, file-bad}
+use Rattle.numbers.specs.Answers.{told}
+use Rattle.lists.specs.Answers.{toldCount}
+use Rattle.lists.specs.Laws.File.{file-header, file-size, file-list, file-bad}
 use borrow.Author.Needs.{needs}
 use Rattle.lists.proofs.read_list.Statement.{statement}
 use Rattle.lists.proofs.read_list.Tie as tie

@@ -1,7 +1,7 @@
 -- `lists::scan` meets its contract: n refused, or the scan from byte 0.
 -- Assumes nothing.
 use mathlib.Core.Path.{sym, _∙_}
-use Rattle.lists.specs.Scan.{scan-past, scan-whole}
+use Rattle.lists.specs.Laws.Scan.{scan-past, scan-whole}
 use borrow.Author.Needs.{needs}
 use Rattle.lists.proofs.scan.Statement.{statement}
 use Rattle.lists.proofs.scan.Tie as tie

@@ -6,9 +6,10 @@ use mathlib.Core.Path.{_≡_, sym, ap, _∙_}
 use Prim.Native.Nat.{_-_}
 use native.Mathlib.Omega.{arith}
 use lib.ListN.{length}
-use Rattle.numbers.specs.Told.{told}
-use Rattle.lists.specs.Link.{ends-within, no-ends-some, link-is-not}
-use Rattle.lists.specs.Scan.{scanFrom, scanEnd, Halfway, halfway-starts, halfway-on, halfway-off, Scanning, scanning-starts, scan-on, scan-off, scan-end, good-link, link-bad, link-good}
+use Rattle.numbers.specs.Answers.{told}
+use Rattle.lists.specs.Laws.Link.{ends-within, no-ends-some, link-is-not}
+use Rattle.lists.specs.Scan.{scanFrom, scanEnd}
+use Rattle.lists.specs.Laws.Scan.{Halfway, halfway-starts, halfway-on, halfway-off, Scanning, scanning-starts, scan-on, scan-off, scan-end, good-link, link-bad, link-good}
 use Rattle.lists.proofs.scan_from.Statement.{statement}
 use Rattle.lists.proofs.scan_from.Tie as tie
 

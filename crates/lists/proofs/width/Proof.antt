@@ -2,7 +2,8 @@
 -- Assumes nothing.
 use mathlib.Core.Path.{refl, ap, _∙_}
 use Rattle.numbers.specs.Number.{Wrote}
-use Rattle.lists.specs.Write.{answerOr, width-told}
+use Rattle.lists.specs.Write.{answerOr}
+use Rattle.lists.specs.Laws.Write.{width-told}
 use borrow.Author.Needs.{needs}
 use Rattle.lists.proofs.width.Statement.{statement}
 use Rattle.lists.proofs.width.Tie as tie

@@ -1,8 +1,8 @@
 -- `lists::write_list` meets its contract: what the size and the bytes put promise, put together.
 -- Assumes nothing.
 use mathlib.Core.Path.{sym, ap, _∙_}
-use Rattle.numbers.specs.Told.{toldEnd}
-use Rattle.lists.specs.Write.{write-short, write-room, write-done, write-refused}
+use Rattle.numbers.specs.Answers.{toldEnd}
+use Rattle.lists.specs.Laws.Write.{write-short, write-room, write-done, write-refused}
 use borrow.Author.Needs.{needs}
 use Rattle.lists.proofs.write_list.Statement.{statement}
 use Rattle.lists.proofs.write_list.Tie as tie

@@ -5,7 +5,7 @@ use mathlib.Core.Path.{_∙_}
 use native.Mathlib.Omega.{arith}
 use borrow.Author.Needs.{needs}
 use lib.ListN.{length-set}
-use Rattle.numbers.specs.Writing.{filled-out, filled-last, filled-more}
+use Rattle.numbers.specs.Laws.Writing.{filled-out, filled-last, filled-more}
 use borrow.Fn.Kinds.{In}
 use borrow.Fn.PlainCycle.{Measures, is, falls, and}
 use Rattle.numbers.proofs.groups_of.Reads as groups-of

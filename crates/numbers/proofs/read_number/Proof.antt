@@ -4,7 +4,7 @@ use Prim.Native.Nat.{_+_, _*_, _/_, _<_, _≤_}
 use mathlib.Core.Path.{_∙_}
 use native.Mathlib.Omega.{arith}
 use borrow.Author.Needs.{needs}
-use Rattle.numbers.specs.Reading.{Follows, follows, third-small, read-end, read-one, read-out, read-long, read-far, read-more}
+use Rattle.numbers.specs.Laws.Reading.{Follows, follows, third-small, read-end, read-one, read-out, read-long, read-far, read-more}
 use Rattle.numbers.proofs.read_number.Statement.{statement}
 use Rattle.numbers.proofs.read_number.Tie as tie
 

@@ -5,7 +5,7 @@ use mathlib.Core.Path.{refl}
 use native.Mathlib.Omega.{arith}
 use borrow.Author.Needs.{needs}
 use Rattle.numbers.specs.Number.{groupsMost, writeNumber}
-use Rattle.numbers.specs.Writing.{Small, small-filled, Copying, copy-starts, copy-length, copy-more, copy-ends, write-far, write-short, write-done}
+use Rattle.numbers.specs.Laws.Writing.{Small, small-filled, Copying, copy-starts, copy-length, copy-more, copy-ends, write-far, write-short, write-done}
 use Rattle.numbers.proofs.write_number.Statement.{statement}
 use Rattle.numbers.proofs.write_number.Tie as tie
 

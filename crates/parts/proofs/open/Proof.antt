@@ -1,4 +1,4 @@
-use Rattle.numbers.specs.Told.{told}
+use Rattle.numbers.specs.Answers.{told}
 use lib.Seq.{length-take-le}
 use mathlib.Core.Path.{sym, ap, _∙_}
 use native.Mathlib.Omega.{arith}

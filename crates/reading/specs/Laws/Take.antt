@@ -8,13 +8,13 @@ use native.Mathlib.Omega.{arith}
 use lib.ListN.{length, take}
 use Rattle.base.specs.Pick.{pick-false}
 use Rattle.base.specs.Truth.{false-T}
-use Rattle.base.specs.Answer.{Answer, gives, refuses}
+use Rattle.base.specs.Answer.{gives, refuses}
 use Rattle.rules.specs.Links.{Link}
 use Rattle.rules.specs.Tables.{Tables}
 use Rattle.rules.specs.Reading.{readLinks}
 use Rattle.lists.specs.List.{blockLinks, scanBlock}
-use Rattle.lists.specs.Block.{scan-gives, scan-refuses}
-use Rattle.lists.specs.Laws.{accepted-count}
+use Rattle.lists.specs.Laws.Block.{scan-gives, scan-refuses}
+use Rattle.lists.specs.Theorems.{accepted-count}
 use Rattle.state.specs.Layout.{linkIn, tablesIn, fragOf, heldOf}
 use Rattle.state.specs.Test.{isBuilding, isReading}
 use Rattle.state.specs.Call.{headRefusal, leaves, moved}

@@ -19,8 +19,8 @@ use Rattle.state.specs.Layout.{stored, tablesIn, forestIn}
 use Rattle.state.specs.Laws.Layout.{section-same, section-length, note-word, store-note, store-mark, store-crossed}
 use Rattle.reading.specs.Whole.{Whole}
 use Rattle.lists.specs.List.{fragmentsMost, linksAt, blockLinks, scanLink}
-use Rattle.lists.specs.Link.{link-accepted, link-read, link-told}
-use Rattle.lists.specs.Block.{walked, link-there}
+use Rattle.lists.specs.Laws.Link.{link-accepted, link-read, link-told}
+use Rattle.lists.specs.Laws.Block.{walked, next-given}
 use Rattle.reading.specs.Tell.{passing, crossedIn, Kept, Leaves, Reads, Given, linksOf}
 use Rattle.reading.specs.Laws.Climb.{word-lev}
 
@@ -160,4 +160,4 @@ module _ {n entries : ℕ} {block : List ℕ} {c₀ : Bool} {f₀ : List ℕ} {t
   ]
 
   pub telling-whole : {A : Type 0} → n ≤ fragmentsMost → at < length block → (number place : ℕ) → scanLink n told block at ≡ refuses number place → A
-  telling-whole few h number place e = absurd (link-there n block few told at (t .links) (t .are) h number place e)
+  telling-whole few h number place e = absurd (next-given n block few told at (t .links) (t .are) h number place e)

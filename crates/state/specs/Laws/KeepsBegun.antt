@@ -10,7 +10,7 @@ use lib.ListN.{length}
 use borrow.Author.Tests.{eq-eqb, ne-eqb}
 use Rattle.base.specs.Pick.{pick, pick-true, pick-false}
 use Rattle.base.specs.Answer.{gives, refuses}
-use Rattle.lists.specs.Link.{never-both}
+use Rattle.lists.specs.Laws.Link.{never-both}
 use Rattle.rules.specs.Tables.{Tables, fresh}
 use Rattle.rules.specs.Adopting.{adoptable, adopted}
 use Rattle.rules.specs.Laws.Tables.{placed-loose}

@@ -12,7 +12,7 @@ use Rattle.base.specs.Pick.{pick-true, pick-false}
 use Rattle.base.specs.Answer.{Answer, gives, refuses}
 use Rattle.base.specs.Truth.{or-cases, T-dec, T-true, T-false}
 use Rattle.lists.specs.List.{blockLinks}
-use Rattle.lists.specs.Link.{never-both}
+use Rattle.lists.specs.Laws.Link.{never-both}
 use Rattle.rules.specs.Links.{Link}
 use Rattle.rules.specs.Tables.{Tables, cleared}
 use Rattle.rules.specs.Building.{closeBuilding, done}

@@ -12,7 +12,7 @@ use Rattle.base.specs.Answer.{gives}
 use Rattle.base.specs.Truth.{or-l, or-cases, T-dec, T-true, T-false}
 use Rattle.lists.specs.List.{blockLinks}
 use Rattle.lists.specs.Words.{Sound as Fits}
-use Rattle.lists.specs.Laws.{accepted-sound, accepted-count}
+use Rattle.lists.specs.Theorems.{accepted-sound, accepted-count}
 use Rattle.rules.specs.Links.{Link, linked, Among}
 use Rattle.rules.specs.Tables.{Tables, cleared}
 use Rattle.rules.specs.Building.{closeBuilding, done}

@@ -4,7 +4,7 @@ use Prim.Native.Nat.{_-_}
 use mathlib.Core.Path.{sym, ap, _∙_}
 use native.Mathlib.Omega.{arith}
 use borrow.Author.Needs.{needs}
-use Rattle.lists.specs.Told.{toldLink}
+use Rattle.lists.specs.Answers.{toldLink}
 use Rattle.building.specs.Noted.{Fresh, Apart}
 use Rattle.building.specs.Laws.Noted.{apart-none, apart-then, told-link, told-ends}
 use Rattle.building.proofs.noted.note_links.Statement.{statement}

@@ -2,7 +2,7 @@
 -- Assumes nothing.
 use native.Mathlib.Omega.{arith}
 use mathlib.Core.Path.{sym, ap, _∙_}
-use Rattle.lists.specs.Told.{toldCount}
+use Rattle.lists.specs.Answers.{toldCount}
 use Rattle.building.specs.Laws.Take.{passed, block-rest, take-head, take-refused, take-tells, take-accepted}
 use borrow.Author.Needs.{needs}
 use Rattle.building.proofs.taking.take.Statement.{statement}

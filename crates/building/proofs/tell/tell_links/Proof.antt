@@ -5,7 +5,7 @@ use native.Mathlib.Omega.{arith}
 use Prim.Native.Nat.{_-_}
 use mathlib.Core.Path.{sym, ap, _∙_}
 use lib.ListN.{length}
-use Rattle.lists.specs.Told.{toldLink}
+use Rattle.lists.specs.Answers.{toldLink}
 use Rattle.building.specs.Laws.Telling.{Midway, midway-starts, midway-bad, midway-end, midway-link, midway-ends, midway-next}
 use Rattle.building.proofs.tell.tell_links.Statement.{statement}
 use Rattle.building.proofs.tell.tell_links.Tie as tie

@@ -4,7 +4,7 @@ use Prim.Native.Nat.{_+_}
 use mathlib.Core.Path.{sym, ap, _∙_}
 use native.Mathlib.Omega.{arith}
 use borrow.Author.Needs.{needs}
-use Rattle.lists.specs.Told.{toldCount}
+use Rattle.lists.specs.Answers.{toldCount}
 use Rattle.state.specs.Test.{isReading}
 use Rattle.reading.specs.Laws.Pass.{reading-settled}
 use Rattle.reading.specs.Laws.Take.{scanned, scanned-few, take-refused, take-bad, take-on}

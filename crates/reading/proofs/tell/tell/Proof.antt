@@ -5,8 +5,8 @@ use mathlib.Core.Path.{sym, ap, _∙_}
 use native.Mathlib.Omega.{arith}
 use borrow.Author.Needs.{needs}
 use lib.ListN.{length}
-use Rattle.lists.specs.Link.{link-told}
-use Rattle.lists.specs.Told.{toldLink}
+use Rattle.lists.specs.Laws.Link.{link-told}
+use Rattle.lists.specs.Answers.{toldLink}
 use Rattle.reading.specs.Laws.Tell.{Telling, telling-starts, telling-on, telling-ends, telling-whole, kept-whole}
 use Rattle.reading.proofs.tell.tell.Statement.{statement}
 use Rattle.reading.proofs.tell.tell.Tie as tie

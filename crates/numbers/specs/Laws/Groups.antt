@@ -1,19 +1,26 @@
 -- What holds of reading and writing with any greatest number of groups.
 -- Assumes nothing.
-use Prim.Native.Nat.{ℕ, zero, suc, _+_, _*_, _^_, _/_, _%_, _<_, _≤_}
+use Prim.Native.Nat.{ℕ, zero, suc, _+_, _-_, _*_, _^_, _/_, _%_, _<_, _≤_}
 use native.Mathlib.Omega.{arith}
 use native.Mathlib.Decide.{decLt}
-use native.Mathlib.Nat.{pow-suc, add-suc}
+use native.Mathlib.Nat.{pow-suc, add-suc, sub-zero, zero-sub, suc-sub-suc}
 use mathlib.Core.Path.{_≡_, refl, ap}
 use mathlib.Core.List.{List, [], _∷_, _++_}
 use mathlib.Core.Bool.{Bool, true, false}
 use mathlib.Core.Logic.{_⊎_, inl, inr}
 use lib.Dec.{ltb}
-use lib.ListN.{length, take}
+use lib.ListN.{length, take, drop}
+use lib.Seq.{take-nil}
 use Rattle.base.specs.Pick.{pick, pick-all, tests}
 use Rattle.base.specs.Answer.{Answer, gives, refuses}
 use Rattle.numbers.specs.Number.{Numeral, onto, readGroups, atMost, groupsOf}
 use Rattle.numbers.specs.Words.{Bytes, seenGroups, Whole, moved}
+
+pub drop-take : (a c : ℕ) (s : List ℕ) → take (c - a) (drop a s) ≡ drop a (take c s)
+drop-take zero c s = rw (sub-zero c)
+drop-take (suc a) zero s = rw (zero-sub (suc a))
+drop-take (suc a) (suc c) [] = take-nil (suc c - suc a)
+drop-take (suc a) (suc c) (x ∷ s) = rw (suc-sub-suc c a) (drop-take a c s)
 
 -- What is seen.
 

@@ -12,7 +12,7 @@ use lib.Seq.{drop-cons}
 use Rattle.base.specs.Pick.{pick, tests}
 use Rattle.base.specs.Answer.{Answer, gives, refuses}
 use Rattle.numbers.specs.Number.{Numeral, valueMost, onto, readGroups, atMost, readUpTo, readNumber}
-use Rattle.numbers.specs.Groups.{same-number}
+use Rattle.numbers.specs.Laws.Groups.{same-number}
 
 -- One group of `suc further` that are left.
 module _ (further least : ℕ) (s : List ℕ) (at : ℕ) where

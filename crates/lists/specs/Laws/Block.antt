@@ -14,7 +14,7 @@ use Rattle.base.specs.Pick.{pick, pick-false, tests}
 use Rattle.base.specs.Answer.{Answer, gives, refuses}
 use Rattle.lists.specs.List.{fragmentsMost, andThen, before, Link, LinkAt, readLink, scanLink, linksIn, linksAt, blockLinks, scanBlock}
 use Rattle.lists.specs.Words.{shifted}
-use Rattle.lists.specs.Link.{andThen-same, andThen-gives, answered, never-both, sized-gives, sized-within, link-accepted, link-behind, link-more, ahead}
+use Rattle.lists.specs.Laws.Link.{andThen-same, andThen-gives, answered, never-both, sized-gives, sized-within, link-accepted, link-behind, link-more, ahead}
 
 module _ (n : ℕ) (s : List ℕ) where
   -- Turns enough are as good as more.
@@ -71,10 +71,10 @@ module _ (n : ℕ) (s : List ℕ) where
   ]
 
   -- Where links that are accepted are left, the next one alone is given.
-  pub link-there : n ≤ fragmentsMost → (e at : ℕ) (ls : List Link) → linksAt n e s at ≡ gives ls → at < length s
+  pub next-given : n ≤ fragmentsMost → (e at : ℕ) (ls : List Link) → linksAt n e s at ≡ gives ls → at < length s
       → (number place : ℕ) → scanLink n e s at ≡ refuses number place → ⊥
   unfolding scanLink
-  link-there few e at ls p h number place r = elim (walked e at ls p) [
+  next-given few e at ls p h number place r = elim (walked e at ls p) [
     | inl (k, z) ↦ omega arith
     | inr (l, ms, q, q′, z) ↦
         let a = link-accepted n e s at l q in

@@ -5,7 +5,7 @@ use Prim.Native.Nat.{ℕ}
 use mathlib.Core.Path.{_≡_, refl, sym, ap, _∙_}
 use Rattle.base.specs.Answer.{Answer, gives, refuses}
 use Rattle.lists.specs.List.{LinkAt, ListRead}
-use Rattle.lists.specs.Told.{toldLink, toldCount, toldList}
+use Rattle.lists.specs.Answers.{toldLink, toldCount, toldList}
 use Rattle.lists.specs.declared.Link.{Link}
 use Rattle.lists.specs.declared.Link.the-variants.{Ends, Refused}
 use Rattle.lists.specs.declared.Scanned.{Scanned}

@@ -14,8 +14,8 @@ use Rattle.base.specs.Answer.{Answer, gives, refuses}
 use Rattle.numbers.specs.Number.{Numeral, readNumber}
 use Rattle.lists.specs.List.{fragmentsMost, noSize, sized, andThen, placed, joins, counts, LinkAt, readEnds, readLink, scanLink, entriesMost}
 use Rattle.lists.specs.Words.{shifted}
-use Rattle.numbers.specs.Laws.{number-within, number-refusal}
-use Rattle.lists.specs.Numbers.{given-more, given-less, given-behind, refused-more, refused-behind}
+use Rattle.numbers.specs.Theorems.{number-within, number-refusal}
+use Rattle.lists.specs.Laws.Numbers.{given-more, given-less, given-behind, refused-more, refused-behind}
 
 pub never-both : {A : Type 0} {x : Answer A} {a : A} {number place : ℕ} → x ≡ gives a → x ≡ refuses number place → ⊥
 never-both p q = let z : _≡_ {A = ℕ} 0 1 = cc in omega arith

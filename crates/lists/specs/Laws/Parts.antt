@@ -9,15 +9,15 @@ use Prim.Native.Nat.{ℕ, zero, suc, _+_, _-_, _≤_, _<_}
 use lib.ListN.{length, take, length-take}
 use lib.Seq.{take-length}
 use Rattle.base.specs.Answer.{Answer, gives, refuses}
-use Rattle.numbers.specs.Number.{Numeral, readNumber, groupsMost}
+use Rattle.numbers.specs.Number.{Numeral, readNumber}
 use Rattle.numbers.specs.Words.{seen}
-use Rattle.numbers.specs.Laws.{number-seen, number-within, number-few, number-short, number-none}
+use Rattle.numbers.specs.Theorems.{number-seen, number-within, number-none}
 use Rattle.lists.specs.List.{andThen, before, LinkAt, readEnds, readLink, linksAt, cutAt}
 use Rattle.lists.specs.Words.{seenSecond, seenLink}
-use Rattle.lists.specs.Numbers.{given-less, refused-less}
-use Rattle.lists.specs.Link.{Ends, NoEnds, no-first, no-second, ends-are, ends-are-not, ends-told, ends-within, ends-less, link-is, link-is-not, link-accepted, link-refused, never-both}
-use Rattle.lists.specs.Block.{links-go, links-stop, stopped}
-use Rattle.lists.specs.File.{cut-on, cut-here, cut-all}
+use Rattle.lists.specs.Laws.Numbers.{given-less, refused-less}
+use Rattle.lists.specs.Laws.Link.{Ends, NoEnds, no-first, no-second, ends-are, ends-are-not, ends-told, ends-within, ends-less, link-is, link-is-not, link-accepted, link-refused, never-both}
+use Rattle.lists.specs.Laws.Block.{links-go, links-stop, stopped}
+use Rattle.lists.specs.Laws.File.{cut-on, cut-here, cut-all}
 
 -- What is looked at of a link: up to its end, or up to the end of the number that is refused.
 seen-ends : {s : List ℕ} {at : ℕ} {l : LinkAt} → Ends s at l → seenLink s at ≡ l .next
@@ -35,14 +35,6 @@ link-past s at = go (readNumber s at) refl
     go : (x : Answer Numeral) → readNumber s at ≡ x → at ≤ seenSecond s at x
     go (gives a) e = omega (arith, seen-past s (a .next), number-within s at a e .0)
     go (refuses number place) e = seen-past s at
-
-pub link-few : (s : List ℕ) (at : ℕ) → seenLink s at ≤ at + groupsMost + groupsMost
-unfolding seenLink seenSecond
-link-few s at = go (readNumber s at) refl
-  where
-    go : (x : Answer Numeral) → readNumber s at ≡ x → seenSecond s at x ≤ at + groupsMost + groupsMost
-    go (gives a) e = omega (arith, number-few s (a .next), number-short s at a e)
-    go (refuses number place) e = omega (arith, number-few s at)
 
 no-ends-less : (s : List ℕ) (at c number place : ℕ) → (number ≡ 8 → ⊥) → seenLink s at ≤ c → NoEnds s at number place → NoEnds (take c s) at number place
 unfolding seenLink seenSecond

@@ -8,7 +8,7 @@ use lib.ListN.{length, take}
 use Rattle.base.specs.Answer.{gives, refuses}
 use Rattle.numbers.specs.Number.{Numeral, readNumber}
 use Rattle.numbers.specs.Words.{Whole, seen, moved}
-use Rattle.numbers.specs.Laws as laws
+use Rattle.numbers.specs.Theorems as laws
 
 module _ (s : List ℕ) (at : ℕ) (r : Numeral) (e : readNumber s at ≡ gives r) where
   whole : Whole (readNumber s at)

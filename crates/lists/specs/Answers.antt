@@ -2,7 +2,7 @@
 -- Assumes nothing.
 use Prim.Native.Nat.{ℕ}
 use Rattle.base.specs.Answer.{Answer, gives}
-use Rattle.numbers.specs.Told.{refused}
+use Rattle.numbers.specs.Answers.{refused}
 use Rattle.lists.specs.List.{LinkAt, ListRead}
 use Rattle.lists.specs.declared.Link.{Link}
 use Rattle.lists.specs.declared.Link.the-variants.{Ends, Refused}
