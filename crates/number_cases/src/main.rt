@@ -100,34 +100,45 @@ fn write_into(value: u32, buffer: &mut [u8], room: usize, at: usize) {
     }
 }
 
-// Document 01: 127 is 7F, 128 is 80 01, 32,767 is FF FF 01, 32,768 is 80 80 02; 80 00 gives 7, 80 80 80 gives 7, 80 80 and the end gives 8.
+// Document 01: 127 is 7F, 128 is 80 01, 32,767 is FF FF 01, 32,768 is 80 80 02.
 fn known_reads() {
     read_case(b"\x7f", 0, Read::Number(127, 1));
     read_case(b"\x80\x01", 0, Read::Number(128, 2));
     read_case(b"\xff\xff\x01", 0, Read::Number(32767, 3));
     read_case(b"\x80\x80\x02", 0, Read::Number(32768, 3));
+}
+
+// 80 00 gives 7, 80 80 80 gives 7, 80 80 and the end gives 8.
+fn known_refusals() {
     read_case(b"\x80\x00", 0, no_number(7));
     read_case(b"\x80\x80\x80", 0, no_number(7));
     read_case(b"\x80\x80", 0, no_number(8));
 }
 
-// The first and the last value of each length, and what no number of three bytes may be: 127 + 127 * 128 is 16,383, and 127 * 16,384 more is
-// 2,097,151.
+// The first and the last value of each length: 127 + 127 * 128 is 16,383, and 127 * 16,384 more is 2,097,151.
 fn more_reads() {
     read_case(b"\x00", 0, Read::Number(0, 1));
     read_case(b"\xff\x7f", 0, Read::Number(16383, 2));
     read_case(b"\x80\x80\x01", 0, Read::Number(16384, 3));
     read_case(b"\xff\xff\x7f", 0, Read::Number(2097151, 3));
+}
+
+// What no number of three bytes may be, and the end inside a number.
+fn bad_reads() {
     read_case(b"\x80\x80\x00", 0, no_number(7));
     read_case(b"\xff\xff\x80\x01", 0, no_number(7));
     read_case(b"\xff", 0, no_number(8));
     read_case(b"", 0, no_number(8));
 }
 
-// A number between others, and positions at and past the end.
+// A number between others.
 fn placed_reads() {
     read_case(b"\x05\xff\x7f\x09", 1, Read::Number(16383, 3));
     read_case(b"\x05\xff\x7f\x09", 3, Read::Number(9, 4));
+}
+
+// Positions at and past the end.
+fn past_reads() {
     read_case(b"\x05\xff\x7f\x09", 4, no_number(8));
     read_case(b"\x05\xff\x7f\x09", 5, no_number(8));
     read_case(b"\x05\xff", 1, no_number(8));
@@ -140,6 +151,9 @@ fn known_writes() {
     write_case(128, 2, 0, Written::End(2), b"\x80\x01");
     write_case(16383, 2, 0, Written::End(2), b"\xff\x7f");
     write_case(16384, 3, 0, Written::End(3), b"\x80\x80\x01");
+}
+
+fn more_writes() {
     write_case(32767, 3, 0, Written::End(3), b"\xff\xff\x01");
     write_case(32768, 3, 0, Written::End(3), b"\x80\x80\x02");
     write_case(2097151, 3, 0, Written::End(3), b"\xff\xff\x7f");
@@ -147,13 +161,17 @@ fn known_writes() {
     write_case(4294967295, 3, 0, not_written(7), b"\xaa\xaa\xaa");
 }
 
-// Bytes before and behind the number stay; room short by one; 7 is tested before 3.
+// Bytes before and behind the number stay; room short by one.
 fn placed_writes() {
     write_case(128, 5, 1, Written::End(3), b"\xaa\x80\x01\xaa\xaa");
     write_case(5, 5, 4, Written::End(5), b"\xaa\xaa\xaa\xaa\x05");
     write_case(0, 0, 0, not_written(3), b"");
     write_case(128, 1, 0, not_written(3), b"\xaa");
     write_case(16384, 2, 0, not_written(3), b"\xaa\xaa");
+}
+
+// Positions with too little room behind them, or none; 7 is tested before 3.
+fn past_writes() {
     write_case(16384, 5, 3, not_written(3), b"\xaa\xaa\xaa\xaa\xaa");
     write_case(0, 5, 5, not_written(3), b"\xaa\xaa\xaa\xaa\xaa");
     write_case(0, 5, 6, not_written(3), b"\xaa\xaa\xaa\xaa\xaa");
@@ -169,9 +187,14 @@ fn placed_writes() {
 
 fn main() {
     known_reads();
+    known_refusals();
     more_reads();
+    bad_reads();
     placed_reads();
+    past_reads();
     known_writes();
+    more_writes();
     placed_writes();
+    past_writes();
     random::run();
 }

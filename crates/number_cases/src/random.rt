@@ -47,29 +47,42 @@ fn byte_at(s: &[u8], i: usize) -> u64
     if i < s.len() { wide(s[i]) } else { 0 }
 }
 
-// The second reading: weights 1, 128 and 16,384, and the top bits taken off at the end.
+// The second reading: a byte, and what may stand behind it, with weights 1, 128 and 16,384.
 fn second(s: &[u8], at: usize) -> u64 {
     if at >= s.len() {
         return 8;
     }
     let a = byte_at(s, at);
-    let b = byte_at(s, at + 1);
-    let c = byte_at(s, at + 2);
-    let left = s.len() - at;
     if a < 128 {
         told(a, at + 1)
-    } else if left == 1 {
-        8
-    } else if b == 0 {
+    } else {
+        second_byte(a, s, at + 1)
+    }
+}
+
+fn second_byte(a: u64, s: &[u8], at: usize) -> u64 {
+    if at >= s.len() {
+        return 8;
+    }
+    let b = byte_at(s, at);
+    if b == 0 {
         7
     } else if b < 128 {
-        told(a + 128 * b - 128, at + 2)
-    } else if left == 2 {
-        8
-    } else if c == 0 || c > 127 {
+        told(a % 128 + 128 * b, at + 1)
+    } else {
+        third_byte(a % 128 + b % 128 * 128, s, at + 1)
+    }
+}
+
+fn third_byte(low: u64, s: &[u8], at: usize) -> u64 {
+    if at >= s.len() {
+        return 8;
+    }
+    let c = byte_at(s, at);
+    if c == 0 || c > 127 {
         7
     } else {
-        told(a + 128 * b + 16384 * c - 16512, at + 3)
+        told(low % 16384 + 16384 * c, at + 1)
     }
 }
 

@@ -9,8 +9,8 @@ use Rattle.list_cases.proofs.write_into.Tie as tie
 slice-aggregate-write-list : tie.Need-slice-aggregate-write-list
 slice-aggregate-write-list c = simp length-take (omega arith)
 
-slice-aggregate-bytes : tie.Need-slice-aggregate-bytes
-slice-aggregate-bytes c = simp length-take (omega arith)
+slice-aggregate-show-written-2 : tie.Need-slice-aggregate-show-written-2
+slice-aggregate-show-written-2 c = simp length-take (omega arith)
 
 pub write-into-spec : {M : Type 1} → statement M
 write-into-spec =
@@ -19,11 +19,9 @@ write-into-spec =
     (λ c. search needs)
     slice-aggregate-write-list
     (λ c κs. search needs)
-    (λ c κs. search needs)
     (λ c. search needs)
-    (λ c κs. search needs)
     (λ c. search needs)
-    slice-aggregate-bytes
+    slice-aggregate-show-written-2
     (λ c κs. search needs)
     (λ c. search needs)
     (λ c. search needs)
