@@ -4,7 +4,7 @@ mod common;
 #[path = "common/model.rs"]
 mod model;
 
-use common::{build, list, tell, Dice};
+use common::{build, links_by_home, list, tell, Dice};
 use model::Model;
 use welmocant::plain::{self, removal, Building, Link};
 use welmocant::{block, Ending, Forest, Stage};
@@ -138,6 +138,29 @@ fn larger_lists_beside_the_plain_rules() {
     }
     println!("larger lists 600, with lost pieces {lossy}, at most {most} passes");
     assert!(lossy > 50);
+}
+
+#[test]
+fn links_made_against_the_index() {
+    // Home slots at one place: at the end of the slots, where a link may find none, at their beginning, and in the middle.
+    let mut dice = Dice::new(13);
+    let mut fullest = 0;
+    for n in [20, 60, 300] {
+        let all = links_by_home(n);
+        for k in [2, 4, 8, 64] {
+            for part in 0..3 {
+                let count = all.len().min(8 * n as usize);
+                let from = part * (all.len() - count) / 2;
+                let mut links = all[from..from + count].to_vec();
+                links.extend_from_within(..count / 4);
+                let (mut forest, mut model, beside) = one_list(n, k, &mut links, &mut dice, true);
+                assert!(read_both(&mut forest, &mut model, &links, links.len()));
+                fullest = fullest.max(beside.most_held / n as usize);
+            }
+        }
+    }
+    println!("links made against the index: up to {fullest} held for each fragment");
+    assert!(fullest > 4);
 }
 
 #[test]

@@ -1,6 +1,6 @@
 //! The lists that are told, made by a fixed rule, and the blocks they are told in.
 
-use super::common::Dice;
+use super::common::{Dice, FACTOR};
 use super::rows::{Blocks, List, Row};
 use welmocant::plain::Link;
 use welmocant::{block, put_number};
@@ -53,9 +53,6 @@ fn path(dice: &mut Dice, n: u32, count: usize) -> Vec<Link> {
     links.truncate(count);
     links
 }
-
-/// The factor of `building::index`: the home slot of a link is the high part of its word times this, of 32 bits.
-const FACTOR: u32 = 2_654_435_769;
 
 /// Links whose words lie next to one another by their home slots: the way from each goes over all that stand there.
 fn hurt(dice: &mut Dice, n: u32, count: usize) -> Vec<Link> {

@@ -63,6 +63,16 @@ pub fn list(dice: &mut Dice, n: u32, kind: u32) -> Vec<Link> {
     links
 }
 
+/// The factor by which the index of held links spreads their words over its slots: the home slot is the high part of this product.
+pub const FACTOR: u32 = 2_654_435_769;
+
+/// All links of n fragments, by where their home slots lie.
+pub fn links_by_home(n: u32) -> Vec<Link> {
+    let mut links: Vec<Link> = (0..n).flat_map(|b| (0..b).map(move |a| (a, b))).collect();
+    links.sort_unstable_by_key(|&(a, b)| (a * 32_768 + b).wrapping_mul(FACTOR));
+    links
+}
+
 /// Tells a list in blocks of so many links.
 pub fn tell(forest: &mut Forest, links: &[Link], size: usize) {
     for part in links.chunks(size.max(1)) {
