@@ -1,5 +1,5 @@
-//! The script `report`: its status, what stands on standard output, and what it says where something is wrong. But for one call it runs with
-//! a stand-in for `rt` and for the program, so that each way a build or a program can end is tried in no time.
+//! The script `report`: its status, what stands on standard output, and what it says where something is wrong. It runs with a stand-in for
+//! `rt`, and but for one call with one for the program, so that each way a build or a program can end is tried in no time.
 
 use std::fs;
 use std::io::{BufRead, BufReader};
@@ -31,10 +31,13 @@ impl Stand {
         Stand(folder)
     }
 
+    fn path(&self) -> String {
+        format!("{}:{}", self.0.join("bin").display(), std::env::var("PATH").unwrap())
+    }
+
     fn command(&self, list: &str) -> Command {
         let mut command = Command::new(self.0.join("report"));
-        let path = format!("{}:{}", self.0.join("bin").display(), std::env::var("PATH").unwrap());
-        command.arg(list).current_dir(&self.0).env("PATH", path);
+        command.arg(list).current_dir(&self.0).env("PATH", self.path());
         command
     }
 
@@ -56,13 +59,17 @@ fn ended(out: &Output, status: i32, printed: &str, said: &str) {
     assert!(error.contains(said) && (said.is_empty() == error.is_empty()), "{error}");
 }
 
-/// The real one, from another folder: it proves what has changed.
+/// The program itself, on the example, called from another folder by a link to the script.
 #[test]
 fn the_example() {
     let root = script().parent().unwrap().to_path_buf();
-    let out = Command::new(script()).arg(root.join("examples/square.sev")).current_dir("/").output().unwrap();
-    assert_eq!(out.status.code(), Some(0), "{}", String::from_utf8_lossy(&out.stderr));
-    assert!(out.stdout.starts_with(b"fragments 4 links 4 passes 1\n") && out.stdout.ends_with(b"\nsole 0 3\n"));
+    let stand = Stand::new("example", "exit 0", "");
+    fs::copy(root.join("target/bin/report"), stand.0.join("target/bin/report")).expect("rt check report writes target/bin/report");
+    std::os::unix::fs::symlink(stand.0.join("report"), stand.0.join("bin/linked")).unwrap();
+    let mut command = Command::new(stand.0.join("bin/linked"));
+    let out = command.arg(root.join("examples/square.sev")).current_dir("/").env("PATH", stand.path()).output().unwrap();
+    let lines = "0 parent 0 piece 0 cut yes\n1 parent 0 piece 0 cut no\n2 parent 1 piece 0 cut no\n3 parent 0 piece 0 cut no\nsole 0 3\n";
+    ended(&out, 0, &format!("fragments 4 links 4 passes 1\n{lines}"), "");
 }
 
 /// What the program prints stands on standard output as it is, and decides the status.
