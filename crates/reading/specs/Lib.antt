@@ -1,6 +1,4 @@
-pub mod Whole
+pub mod Pass
 pub mod Tell
-pub mod Cut
-pub mod Check
 pub mod Adopt
 pub mod Laws

@@ -1,4 +1,4 @@
--- What the private functions of a take ask for and leave in the fragment table.
+-- What the private functions of a take ask for and leave in the fragment table. Definitions only.
 -- Assumes nothing.
 use Prim.Native.Nat.{ℕ, _*_}
 use mathlib.Core.Path.{_≡_}
@@ -10,13 +10,13 @@ use Rattle.rules.specs.Links.{Link}
 use Rattle.rules.specs.Tables.{Tables}
 use Rattle.rules.specs.Reading.{readLinks}
 use Rattle.lists.specs.List.{blockLinks}
-use Rattle.state.specs.Layout.{stored, tablesIn}
+use Rattle.state.specs.Layout.{movedOn, bare, stored, tablesIn}
 use Rattle.state.specs.declared.State.{State}
 use Rattle.state.specs.declared.Stage.the-variants.{Built}
 
 -- What the fragment table holds in a pass that is false or not.
 abbrev pub passing : ℕ → Bool → State
-passing n crossed = record { n = n; k = 0; stage = Built; passes = 0; entries = 0; held = 0; crossed = crossed }
+passing n crossed = movedOn (bare n) Built 0 0 0 crossed
 
 abbrev pub crossedIn : ℕ → Bool → List ℕ → Tables
 crossedIn n crossed f = tablesIn (passing n crossed) f []

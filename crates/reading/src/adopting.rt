@@ -5,16 +5,17 @@ ghost use Rattle.rules.specs.Forest.{depth};
 ghost use Rattle.rules.specs.Adopting.{parentIn};
 ghost use Rattle.state.specs.Adopt.{adoptRefusal, adoptCall};
 ghost use Rattle.state.specs.Told.{begunTold};
-ghost use Rattle.reading.specs.Check.{Room};
+ghost use Rattle.state.specs.Laws.Tests.{Room};
 ghost use Rattle.reading.specs.Adopt.{Rooted, Ranked, Placed};
-use crate::blank::blank;
 use crate::parents::may_adopt;
-use crate::words::wide;
 use numbers::Refusal;
 use state::Stage;
 use state::Started;
 use state::State;
 use state::bounds;
+use state::clear;
+use state::wide;
+use tables::NOTE;
 
 // Which of the refusals 1, 2, 3 and 10 is due; 0 where none is.
 fn refusal_of(n: usize, k: usize, parents: &[u32], frags: usize, helds: usize) -> u32
@@ -78,15 +79,7 @@ pub fn adopt(n: usize, k: usize, parents: &[u32], frag: &mut [u32], held: &mut [
         });
     }
     place_all(frag, parents, n);
-    blank(frag, 2 * n, State::WORDS * n);
-    blank(held, 0, k * n);
-    Started::Ready(State {
-        n: n,
-        k: k,
-        stage: Stage::Built,
-        passes: 0,
-        entries: 0,
-        held: 0,
-        crossed: false,
-    })
+    clear(frag, NOTE * n, State::WORDS * n);
+    clear(held, 0, k * n);
+    Started::Ready(State::begun(n, k, Stage::Built))
 }

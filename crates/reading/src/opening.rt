@@ -2,13 +2,15 @@
 ghost use mathlib.Core.Path.{_≡_};
 ghost use Rattle.state.specs.Close.{openCall};
 ghost use Rattle.state.specs.Told.{takenTold};
-use crate::blank::blank;
-use crate::head::head;
-use crate::stage::may_open;
 use numbers::Refusal;
 use state::Stage;
 use state::State;
 use state::Taken;
+use state::clear;
+use state::may_open;
+use tables::NOTE;
+use tables::STORED;
+use tables::head;
 
 pub fn open_reading(s: State, frag: &mut [u32], held: &mut [u32]) -> Taken
     ensures { λ r. ⌜ takenTold s r (now (frag .exit)) (now (held .exit)) ≡ openCall s (now (frag .entry)) (now (held .entry)) ⌝ }
@@ -22,14 +24,6 @@ pub fn open_reading(s: State, frag: &mut [u32], held: &mut [u32]) -> Taken
         });
     }
     let n = s.n;
-    blank(frag, 2 * n, 4 * n);
-    Taken::On(State {
-        n: s.n,
-        k: s.k,
-        stage: Stage::Reading,
-        passes: s.passes,
-        entries: 0,
-        held: 0,
-        crossed: false,
-    })
+    clear(frag, NOTE * n, STORED * n);
+    Taken::On(s.moved(Stage::Reading, s.passes, 0, 0, false))
 }

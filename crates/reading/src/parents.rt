@@ -5,7 +5,7 @@ ghost use lib.ListN.{length};
 ghost use Rattle.rules.specs.Search.{every};
 ghost use Rattle.rules.specs.Adopting.{adoptable};
 ghost use Rattle.reading.specs.Adopt.{below, Inside, Verdict};
-use crate::words::wide;
+use state::wide;
 
 // 'an adopted parent is n or more'
 fn inside(parents: &[u32], n: usize) -> bool

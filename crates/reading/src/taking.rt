@@ -3,14 +3,14 @@ ghost use mathlib.Core.Path.{_≡_};
 ghost use Rattle.state.specs.Test.{isReading};
 ghost use Rattle.state.specs.Take.{takeIn};
 ghost use Rattle.state.specs.Told.{takenTold};
-use crate::head::head;
-use crate::stage::is_reading;
 use crate::tell::tell;
-use crate::words::wide;
 use lists::Scanned;
 use numbers::Refusal;
 use state::State;
 use state::Taken;
+use state::is_reading;
+use state::wide;
+use tables::head;
 
 pub fn take(s: State, frag: &mut [u32], held: &mut [u32], block: &[u8]) -> Taken
     ensures { λ r. ⌜ takenTold s r (now (frag .exit)) (now (held .exit)) ≡ takeIn isReading s (now (frag .entry)) (now (held .entry)) (now (block .entry)) ⌝ }
@@ -28,15 +28,8 @@ pub fn take(s: State, frag: &mut [u32], held: &mut [u32], block: &[u8]) -> Taken
     match lists::scan(n as u32, entries, block) {
         Scanned::Links(count) => {
             let crossed = tell(frag, n, entries, s.crossed, block);
-            Taken::On(State {
-                n: n,
-                k: s.k,
-                stage: stage,
-                passes: s.passes,
-                entries: s.entries + wide(count),
-                held: s.held,
-                crossed: crossed,
-            })
+            let total = s.entries + wide(count);
+            Taken::On(s.moved(stage, s.passes, total, s.held, crossed))
         }
         Scanned::Refused(bad) => Taken::Refused(bad),
     }

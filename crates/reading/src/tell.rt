@@ -6,12 +6,15 @@ ghost use Prim.Native.Nat.{_<_, _-_, max};
 ghost use Rattle.rules.specs.Reading.{above, hear as hearing};
 ghost use Rattle.lists.specs.List.{blockLinks};
 ghost use Rattle.state.specs.Layout.{forestIn};
-ghost use Rattle.reading.specs.Whole.{Whole};
+ghost use Rattle.tables.specs.Whole.{Whole};
 ghost use Rattle.reading.specs.Tell.{Leaves, Reads, Given, linksOf};
-use crate::climb::is_above;
-use crate::climb::parent_of;
-use crate::words::wide;
 use lists::Link;
+use state::wide;
+use tables::LEVEL;
+use tables::MARK;
+use tables::NOTE;
+use tables::is_above;
+use tables::parent_of;
 
 // How far the note lies under the fragment's own level, once it hears of a level.
 fn farther(note: u32, own: u32, other: u32) -> u32
@@ -32,15 +35,14 @@ fn hear(frag: &mut [u32], n: usize, v: usize, w: usize)
     ensures { λ _. ⌜ Leaves n (now (frag .entry)) (now (frag .exit)) (hearing v w) ⌝ }
 {
     if parent_of(frag, n, v) == w {
-        frag[3 * n + v] = 1;
+        frag[MARK * n + v] = 1;
     } else {
-        frag[2 * n + v] = farther(frag[2 * n + v], frag[n + v], frag[n + w]);
+        frag[NOTE * n + v] = farther(frag[NOTE * n + v], frag[LEVEL * n + v], frag[LEVEL * n + w]);
     }
 }
 
 // Whether neither of a and b is above the other.
 fn apart(frag: &[u32], n: usize, a: usize, b: usize) -> bool
-    requires { ⌜ Whole n (now frag) × (a < n) × (b < n) ⌝ }
     ensures { λ r. ⌜ r ≡ not (above (forestIn n (now (frag .entry))) a b || above (forestIn n (now (frag .entry))) b a) ⌝ }
 {
     if is_above(frag, n, a, b) {

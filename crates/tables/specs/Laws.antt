@@ -5,3 +5,4 @@ pub mod Climb
 pub mod Fragment
 pub mod Test
 pub mod Head
+pub mod Whole

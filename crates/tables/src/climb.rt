@@ -1,5 +1,5 @@
 // The way up the forest that stands. An unplaced fragment counts as a root by itself.
-ghost use Prim.Native.Nat.{_-_};
+ghost use Prim.Native.Nat.{suc, _-_};
 ghost use mathlib.Core.Path.{_≡_};
 ghost use Rattle.rules.specs.Forest.{up};
 ghost use Rattle.rules.specs.Tables.{par, lev};
@@ -38,6 +38,17 @@ fn climb(frag: &[u32], n: usize, v: usize, steps: usize) -> usize
         left -= 1;
     }
     at
+}
+
+// The forebear of v one level under a level; v itself where it is not lower.
+pub fn forebear(frag: &[u32], n: usize, v: usize, level: usize) -> usize
+    ensures { λ r. ⌜ r ≡ up (par (forestIn n (now (frag .entry)))) (lev (forestIn n (now (frag .entry))) v - suc level) v ⌝ }
+{
+    let own = level_of(frag, n, v);
+    if own <= level {
+        return v;
+    }
+    climb(frag, n, v, own - level - 1)
 }
 
 // Whether a is on b's way to the root.

@@ -5,6 +5,7 @@ mod refusals;
 mod sections;
 mod test;
 
+pub use climb::forebear;
 pub use climb::is_above;
 pub use climb::level_of;
 pub use climb::parent_of;

@@ -20,18 +20,19 @@ use Rattle.rules.specs.Laws.Search.{every-at, table-length, table-at}
 use Rattle.rules.specs.Laws.Up.{up-add, up-par, par-in, root-lev, child-lev, level-below}
 use Rattle.rules.specs.Laws.Tables.{getD-zeros}
 use Rattle.rules.specs.Laws.Adopting.{adoptable-exact, adopted-levels}
-use Rattle.state.specs.Layout.{words, stored, section, tablesIn, fragOf, heldOf}
+use Rattle.state.specs.Layout.{words, stored, section, wiped, tablesIn, fragOf, heldOf}
 use Rattle.state.specs.Test.{allZero}
 use Rattle.state.specs.Call.{boundsRefusal}
 use Rattle.state.specs.Adopt.{adoptedState, adoptRefusal, adoptCall}
 use Rattle.state.specs.Told.{begunTold}
 use Rattle.state.specs.Laws.Bounds.{Bounds, bounds-known}
 use Rattle.state.specs.Laws.Lists.{all-none, zeros-pass}
+use Rattle.state.specs.Laws.Clear.{wiped-length, wiped-front, wiped-past, wiped-within}
+use Rattle.state.specs.Laws.Tests.{every-more, every-fails}
 use Rattle.state.specs.Laws.Layout.{tables-are, section-length, section-at}
 use Rattle.state.specs.Laws.Lay.{frag-laid, held-laid}
+use Rattle.state.specs.declared.State.{State}
 use Rattle.state.specs.declared.Started.the-variants.{Ready, Refused}
-use Rattle.reading.specs.Check.{Blank}
-use Rattle.reading.specs.Laws.Check.{every-more, every-fails}
 use Rattle.reading.specs.Adopt.{below, Inside, Leads, Verdict, Rooted, Placed}
 
 -- Parents that are fragments; w is v's parent.
@@ -162,12 +163,20 @@ zero-run a m l h q =
 
 -- What is written is what is adopted.
 module _ (n k : ℕ) (ps f f₁ f₂ h h₂ : List ℕ) (b : Bounds n k (length f) (length h)) (i : Rooted n ps) (p : Placed n ps n f f₁)
-    (c : Blank (2 * n) (words * n) (words * n) f₁ f₂) (d : Blank 0 (k * n) (k * n) h h₂) where
+    (c : f₂ ≡ wiped (2 * n) (words * n) f₁) (d : h₂ ≡ wiped 0 (k * n) h) where
+  room : words * n ≤ length f₁
+  room = omega (arith, b .frag-long, p .as-long)
+
   long : words * n ≤ length f₂
-  long = omega (arith, b .frag-long, c .as-long, p .as-long)
+  long = rw (c, wiped-length (2 * n) (words * n) f₁ (omega arith) room) room
 
   kept : (j : ℕ) → j < 2 * n → getD f₂ j 0 ≡ getD f₁ j 0
-  kept j l = sym (getD-take (2 * n) f₂ j 0 l) ∙ ap (λ g. getD g j 0) (c .before) ∙ getD-take (2 * n) f₁ j 0 l
+  kept j l =
+      let e : take (2 * n) f₂ ≡ take (2 * n) f₁ = rw c (wiped-front (2 * n) (words * n) f₁ (omega arith) room) in
+      sym (getD-take (2 * n) f₂ j 0 l) ∙ ap (λ g. getD g j 0) e ∙ getD-take (2 * n) f₁ j 0 l
+
+  none : (j : ℕ) → 2 * n ≤ j → j < words * n → getD f₂ j 0 ≡ 0
+  none j l g = rw c (wiped-within (2 * n) (words * n) f₁ (omega arith) room j l g)
 
   section-is : (j : ℕ) (g : List ℕ) → suc j * n ≤ length f₂ → length g ≡ n → ((v : ℕ) → v < n → getD f₂ (j * n + v) 0 ≡ getD g v 0) → section n j f₂ ≡ g
   section-is j g l e q =
@@ -182,8 +191,8 @@ module _ (n k : ℕ) (ps f f₁ f₂ h h₂ : List ℕ) (b : Bounds n k (length 
       (λ v l. at (0 * n + v) v (omega arith) (omega arith) ∙ p .parents v l ∙ sym (getD-take n ps v 0 l)))
       (section-is 1 (table (λ v. suc (depth (parentIn ps) n v)) n) (omega (arith, long)) (table-length _ n)
       (λ v l. at (1 * n + v) (n + v) (omega arith) (omega arith) ∙ p .levels v l ∙ sym (table-at (λ v. suc (depth (parentIn ps) n v)) n v 0 l)))
-      (section-is 2 (replicate n 0) (omega (arith, long)) (length-replicate n 0) (λ v l. c .none (2 * n + v) (omega arith) (omega arith) ∙ sym (getD-zeros n v)))
-      (section-is 3 (replicate n 0) (omega (arith, long)) (length-replicate n 0) (λ v l. c .none (3 * n + v) (omega arith) (omega arith) ∙ sym (getD-zeros n v)))
+      (section-is 2 (replicate n 0) (omega (arith, long)) (length-replicate n 0) (λ v l. none (2 * n + v) (omega arith) (omega arith) ∙ sym (getD-zeros n v)))
+      (section-is 3 (replicate n 0) (omega (arith, long)) (length-replicate n 0) (λ v l. none (3 * n + v) (omega arith) (omega arith) ∙ sym (getD-zeros n v)))
       refl refl
     where
       at : (j m : ℕ) → j ≡ m → m < 2 * n → getD f₂ j 0 ≡ getD f₁ m 0
@@ -191,15 +200,21 @@ module _ (n k : ℕ) (ps f f₁ f₂ h h₂ : List ℕ) (b : Bounds n k (length 
 
   pub frag-adopted : f₂ ≡ fragOf n (adopted n ps) f
   frag-adopted = frag-laid (adoptedState n k) f f₂ h₂ _ tables-adopted long
-      (zero-run (stored * n) ((words - stored) * n) f₂ (omega (arith, long)) (λ j q l. c .none j (omega arith) (omega arith)))
-      (c .after ∙ past f₁ ∙ ap (λ g. drop (14 * n) g) (p .after) ∙ sym (past f))
+      (zero-run (stored * n) ((words - stored) * n) f₂ (omega (arith, long)) (λ j q l. none j (omega arith) (omega arith)))
+      (after ∙ past f₁ ∙ ap (λ g. drop (14 * n) g) (p .after) ∙ sym (past f))
     where
+      after : drop (words * n) f₂ ≡ drop (words * n) f₁
+      after = rw c (wiped-past (2 * n) (words * n) f₁ (omega arith) room)
+
       past : (g : List ℕ) → drop (words * n) g ≡ drop (14 * n) (drop (2 * n) g)
       past g = let q : words * n ≡ 2 * n + 14 * n = omega arith in ap (λ j. drop j g) q ∙ sym (drop-drop (14 * n) (2 * n) g)
 
+  held-long : k * n ≤ length h₂
+  held-long = rw (d, wiped-length 0 (k * n) h (omega arith) (b .held-long)) (b .held-long)
+
   pub held-adopted : h₂ ≡ heldOf n k (adopted n ps) h
-  held-adopted = held-laid (adoptedState n k) f₂ h h₂ _ tables-adopted (omega arith) (omega (arith, b .held-long, d .as-long))
-      (zero-run 0 (k * n) h₂ (omega (arith, b .held-long, d .as-long)) (λ j q l. d .none j q (omega arith))) (d .after)
+  held-adopted = held-laid (adoptedState n k) f₂ h h₂ _ tables-adopted (omega arith) held-long
+      (zero-run 0 (k * n) h₂ (omega (arith, held-long)) (λ j q l. rw d (wiped-within 0 (k * n) h (omega arith) (b .held-long) j q (omega arith)))) (rw d (wiped-past 0 (k * n) h (omega arith) (b .held-long)))
 
 -- The answers of adopt.
 module _ (n k : ℕ) (ps f h : List ℕ) (r : ℕ) (e : r ≡ adoptRefusal n k ps (length f) (length h)) where
@@ -207,6 +222,6 @@ module _ (n k : ℕ) (ps f h : List ℕ) (r : ℕ) (e : r ≡ adoptRefusal n k p
   unfolding adoptCall
   adopt-refused d = rw (← e) (simp tests)
 
-  pub adopt-ready : r ≡ 0 → (f′ h′ : List ℕ) → f′ ≡ fragOf n (adopted n ps) f → h′ ≡ heldOf n k (adopted n ps) h → begunTold (Ready (adoptedState n k)) f′ h′ ≡ adoptCall n k ps f h
+  pub adopt-ready : r ≡ 0 → (x : State) → x ≡ adoptedState n k → (f′ h′ : List ℕ) → f′ ≡ fragOf n (adopted n ps) f → h′ ≡ heldOf n k (adopted n ps) h → begunTold (Ready x) f′ h′ ≡ adoptCall n k ps f h
   unfolding adoptCall
-  adopt-ready z f′ h′ p q = rw (← e, p, q) (simp tests)
+  adopt-ready z x ex f′ h′ p q = rw (ex, ← e, p, q) (simp tests)

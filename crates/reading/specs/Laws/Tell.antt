@@ -17,12 +17,12 @@ use Rattle.rules.specs.Reading.{above, hear, readLink, readLinks}
 use Rattle.rules.specs.Laws.Tables.{SameForest, same-par, same-lev, same-placed, standing-same}
 use Rattle.state.specs.Layout.{stored, tablesIn, forestIn}
 use Rattle.state.specs.Laws.Layout.{section-same, section-length, note-word, store-note, store-mark, store-crossed}
-use Rattle.reading.specs.Whole.{Whole}
+use Rattle.tables.specs.Whole.{Whole}
 use Rattle.lists.specs.List.{fragmentsMost, linksAt, blockLinks, scanLink}
 use Rattle.lists.specs.Laws.Link.{link-accepted, link-read, link-told}
 use Rattle.lists.specs.Laws.Block.{walked, next-given}
 use Rattle.reading.specs.Tell.{passing, crossedIn, Kept, Leaves, Reads, Given, linksOf}
-use Rattle.reading.specs.Laws.Climb.{word-lev}
+use Rattle.tables.specs.Laws.Whole.{word-lev}
 
 pub kept-refl : (n : ℕ) (f : List ℕ) → Kept n f f
 kept-refl n f = record { front = refl; rest = refl; long = refl }
@@ -76,12 +76,12 @@ module _ {n : ℕ} {f : List ℕ} (w : Whole n f) (v : ℕ) (hv : v < n) (u : �
         ∙ sym (rw (same-par (crossed-forest n c f), eq-eqb (par (forestIn n f) v) u e, pick-true));
   }
 
-  pub hear-note : u < n → (p : ℕ) → p ≡ par (forestIn n f) v → (p ≡ u → ⊥) → (x : ℕ) → x ≡ max (getD f (2 * n + v) 0) (getD f (n + v) 0 - getD f (n + u) 0)
+  pub hear-note : u < n → (p : ℕ) → p ≡ par (forestIn n f) v → (p ≡ u → ⊥) → (i j x : ℕ) → i ≡ n + v → j ≡ n + u → x ≡ max (getD f (2 * n + v) 0) (getD f i 0 - getD f j 0)
       → Leaves n f (set f (2 * n + v) x) (hear v u)
   unfolding hear
-  hear-note hu p e d x q =
+  hear-note hu p e d i j x ei ej q =
       let ep : (par (forestIn n f) v ≡ u → ⊥) = λ z. d (e ∙ z) in
-      let l : lev (forestIn n f) v - lev (forestIn n f) u ≡ getD f (n + v) 0 - getD f (n + u) 0 = omega (arith, word-lev w v hv, word-lev w u hu) in
+      let l : lev (forestIn n f) v - lev (forestIn n f) u ≡ getD f i 0 - getD f j 0 = rw (ei, ej) (omega (arith, word-lev w v hv, word-lev w u hu)) in
       record {
         kept = kept-set n f (2 * n + v) x (omega arith) (omega arith);
         tables = λ c. store-note (passing n c) f [] v x hv

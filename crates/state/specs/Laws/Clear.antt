@@ -8,8 +8,8 @@ use native.Mathlib.Decide.{decLe}
 use native.Mathlib.Numerals.{add-one}
 use native.Mathlib.Nat.{sub-self}
 use lib.Dec.{T}
-use lib.ListN.{length, getD, set, take, drop, replicate, take-append-drop, length-append, length-take, length-drop, length-replicate, drop-of-length-le}
-use lib.Seq.{drop-cons, set-at, drop-drop, take-at, drop-at}
+use lib.ListN.{length, getD, set, take, drop, replicate, take-append-drop, length-append, length-take, length-drop, length-replicate, drop-of-length-le, List·getD-append, getD-replicate}
+use lib.Seq.{drop-cons, set-at, drop-drop, take-at, drop-at, getD-drop}
 use Rattle.state.specs.Layout.{wiped}
 use Rattle.state.specs.Test.{allZero}
 use Rattle.state.specs.Laws.Lists.{zeros, zeros-between}
@@ -82,6 +82,12 @@ module _ (from to : ℕ) (l : List ℕ) (b : from ≤ to) (g : to ≤ length l) 
       let z : to ≡ from + (to - from) = omega arith in
       ap (λ i. drop i (wiped from to l)) z ∙ sym (drop-drop (to - from) from (wiped from to l)) ∙ ap (λ x. drop (to - from) x) wiped-rest
       ∙ drop-at (replicate (to - from) 0) (drop to l) (to - from) (length-replicate (to - from) 0)
+
+  pub wiped-within : (i : ℕ) → from ≤ i → i < to → getD (wiped from to l) i 0 ≡ 0
+  wiped-within i p q =
+      let e : i ≡ from + (i - from) = omega arith in
+      ap (λ j. getD (wiped from to l) j 0) e ∙ sym (getD-drop from (wiped from to l) (i - from) 0) ∙ ap (λ x. getD x (i - from) 0) wiped-rest
+      ∙ List·getD-append (replicate (to - from) 0) (drop to l) 0 (i - from) (simp length-replicate (omega arith)) ∙ getD-replicate (to - from) (i - from) 0 0 (omega arith)
 
 -- Words that were 0 are 0 again.
 pub wiped-back : (from to : ℕ) (f g : List ℕ) → from ≤ to → to ≤ length f → length g ≡ length f → T (allZero (drop from (take to f))) → take from g ≡ take from f → drop to g ≡ drop to f → wiped from to g ≡ f

@@ -42,3 +42,11 @@ module _ (t : Tables) (a b : ℕ) where
 pub root-climb : (t : Tables) (v steps r : ℕ) → r ≡ up (par t) steps v → steps ≡ lev t v → r ≡ rootOf t v
 unfolding rootOf
 root-climb t v steps r e g = rw (e, g)
+
+-- One level under a level.
+module _ (t : Tables) (v level : ℕ) where
+  pub forebear-self : lev t v ≤ level → v ≡ up (par t) (lev t v - suc level) v
+  forebear-self h = let z : lev t v - suc level ≡ 0 = omega arith in rw (z, up-zero)
+
+  pub forebear-climb : (steps r : ℕ) → r ≡ up (par t) steps v → steps ≡ lev t v - suc level → r ≡ up (par t) (lev t v - suc level) v
+  forebear-climb steps r e g = rw (← g) e

@@ -14,6 +14,7 @@ use Rattle.state.specs.Layout.{forestIn, heldLinks}
 use Rattle.state.specs.Test.{isBuilding, sound}
 use Rattle.state.specs.Call.{boundsRefusal, headRefusal}
 use Rattle.state.specs.Laws.Bounds.{Bounds, bounds-known}
+use Rattle.state.specs.Laws.Sound.{Sound, sound-known}
 use Rattle.state.specs.Laws.Tests as plain
 use Rattle.state.specs.declared.State.{State}
 use Rattle.state.specs.declared.Stage.{Stage}
@@ -61,22 +62,36 @@ head-known allowed s f h e = elim (ℕ-discrete (boundsRefusal (s .n) (s .k) (le
 pub headed-bounds : {allowed : Bool} {s : State} {f h : List ℕ} → Headed allowed s f h → Bounds (s .n) (s .k) (length f) (length h)
 headed-bounds {allowed} {s} {f} {h} p = bounds-known (s .n) (s .k) (length f) (length h) (p .within)
 
--- A call that is allowed in some stages, but never in Building: this is its head.
-pub head-settled : (allowed : Stage → Bool) (b : Bool) (s : State) (f h : List ℕ) → b ≡ allowed (s .stage) → (allowed (s .stage) ≡ true → isBuilding (s .stage) ≡ false)
-    → headButLinks b s f h ≡ headRefusal allowed s f h
-head-settled allowed b s f h e n = elim (ℕ-discrete (boundsRefusal (s .n) (s .k) (length f) (length h)) 0) [
-  | no d ↦ sym (due-bounds b s f h _ refl d) ∙ plain.head-bounds allowed s f h _ refl d
-  | yes q ↦ elim (T-dec (allowed (s .stage))) [
-    | no a ↦ let z = T-false (allowed (s .stage)) a in sym (due-stage b s f h _ refl q (e ∙ z)) ∙ plain.head-stage allowed s f h _ refl q z
-    | yes a ↦
-        let z = T-true (allowed (s .stage)) a in
-        let same = sound-outside s f h (n z) in
-        elim (T-dec (soundButLinks s f h)) [
-          | no x ↦ let w = T-false (soundButLinks s f h) x in sym (due-tables b s f h _ refl q (e ∙ z) (sym w)) ∙ plain.head-unsound allowed s f h _ refl q z (sym (same ∙ w))
-          | yes x ↦ let w = T-true (soundButLinks s f h) x in sym (due-none b s f h _ refl q (e ∙ z) (sym w)) ∙ plain.head-sound allowed s f h _ refl q z (sym (same ∙ w))
-        ]
+-- What is known outside Building where none is due.
+pub record Passed (s : State) (f h : List ℕ) : Type 0 where
+  pub bounds : Bounds (s .n) (s .k) (length f) (length h)
+  pub settled : isBuilding (s .stage) ≡ false
+  pub found : Sound s f h
+
+-- A call that is allowed in some stages, but never in Building: this is its head, and what it lets pass.
+module _ (allowed : Stage → Bool) (later : (g : Stage) → allowed g ≡ true → isBuilding g ≡ false) (s : State) (f h : List ℕ) (r : ℕ) (b : Bool) (eb : b ≡ allowed (s .stage))
+    (er : r ≡ headButLinks b s f h) where
+  pub head-is : r ≡ headRefusal allowed s f h
+  head-is = er ∙ elim (ℕ-discrete (boundsRefusal (s .n) (s .k) (length f) (length h)) 0) [
+    | no d ↦ sym (due-bounds b s f h _ refl d) ∙ plain.head-bounds allowed s f h _ refl d
+    | yes q ↦ elim (T-dec (allowed (s .stage))) [
+      | no a ↦ let z = T-false (allowed (s .stage)) a in sym (due-stage b s f h _ refl q (eb ∙ z)) ∙ plain.head-stage allowed s f h _ refl q z
+      | yes a ↦
+          let z = T-true (allowed (s .stage)) a in
+          let same = sound-outside s f h (later (s .stage) z) in
+          elim (T-dec (soundButLinks s f h)) [
+            | no x ↦ let w = T-false (soundButLinks s f h) x in sym (due-tables b s f h _ refl q (eb ∙ z) (sym w)) ∙ plain.head-unsound allowed s f h _ refl q z (sym (same ∙ w))
+            | yes x ↦ let w = T-true (soundButLinks s f h) x in sym (due-none b s f h _ refl q (eb ∙ z) (sym w)) ∙ plain.head-sound allowed s f h _ refl q z (sym (same ∙ w))
+          ]
+    ]
   ]
-]
+
+  pub head-passed : r ≡ 0 → Passed s f h
+  head-passed z =
+      let k = head-known b s f h (sym er ∙ z) in
+      let g = later (s .stage) (sym eb ∙ k .may) in
+      let x : T (sound s f h) = rw (sound-outside s f h g) (k .but-links) in
+      record { bounds = headed-bounds k; settled = g; found = sound-known s f h (headed-bounds k) x }
 
 -- A call that is allowed in Building: r is this head, and where it is 0 the held links decide.
 module _ (s : State) (f h : List ℕ) (r : ℕ) (b : Bool) (eb : b ≡ isBuilding (s .stage)) (er : r ≡ headButLinks b s f h) where

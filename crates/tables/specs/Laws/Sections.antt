@@ -1,11 +1,11 @@
 -- A word of a section, within the table and past it; the better of two notes; the ends of a held link.
 -- Assumes nothing.
 use Prim.Native.Nat.{ℕ, pred, _+_, _-_, _*_, _≤_, _<_}
-use mathlib.Core.Path.{_≡_, refl, sym, ap, _∙_}
+use mathlib.Core.Path.{_≡_, refl, sym, _∙_}
 use mathlib.Core.List.{List}
 use native.Mathlib.Omega.{arith}
-use native.Mathlib.Nat.{zero-mul, zero-add, mul-le-mul-right}
-use lib.ListN.{length, getD, take, drop, length-take, length-drop, List·getD-eq-default}
+use native.Mathlib.Nat.{mul-le-mul-right}
+use lib.ListN.{length, getD, length-take, length-drop, List·getD-eq-default}
 use Rattle.base.specs.Pick.{tests}
 use Rattle.rules.specs.Tables.{Tables, rank}
 use Rattle.rules.specs.Building.{better}

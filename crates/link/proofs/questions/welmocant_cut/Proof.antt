@@ -17,7 +17,7 @@ use Rattle.link.proofs.questions.welmocant_cut.Lts as lts
 use Rattle.link.proofs.questions.judge.Reads as judge-reads
 use Rattle.link.proofs.words.unpack.Reads as unpack-reads
 use Rattle.link.proofs.words.wide.Reads as wide-reads
-use Rattle.reading.proofs.cut.Reads as cut-reads
+use Rattle.asking.proofs.cut.Reads as cut-reads
 
 -- src/questions.rt:100:9
 returns : tie.Need-returns

@@ -17,7 +17,7 @@ use Rattle.link.proofs.questions.welmocant_level.Lts as lts
 use Rattle.link.proofs.questions.tell.Reads as tell-reads
 use Rattle.link.proofs.words.unpack.Reads as unpack-reads
 use Rattle.link.proofs.words.wide.Reads as wide-reads
-use Rattle.reading.proofs.level.Reads as level-reads
+use Rattle.asking.proofs.level.Reads as level-reads
 
 -- src/questions.rt:74:9
 returns : tie.Need-returns

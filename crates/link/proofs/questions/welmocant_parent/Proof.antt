@@ -17,7 +17,7 @@ use Rattle.link.proofs.questions.welmocant_parent.Lts as lts
 use Rattle.link.proofs.questions.tell.Reads as tell-reads
 use Rattle.link.proofs.words.unpack.Reads as unpack-reads
 use Rattle.link.proofs.words.wide.Reads as wide-reads
-use Rattle.reading.proofs.parent.Reads as parent-reads
+use Rattle.asking.proofs.parent.Reads as parent-reads
 
 -- src/questions.rt:61:9
 returns : tie.Need-returns

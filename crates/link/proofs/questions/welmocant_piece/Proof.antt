@@ -17,7 +17,7 @@ use Rattle.link.proofs.questions.welmocant_piece.Lts as lts
 use Rattle.link.proofs.questions.tell.Reads as tell-reads
 use Rattle.link.proofs.words.unpack.Reads as unpack-reads
 use Rattle.link.proofs.words.wide.Reads as wide-reads
-use Rattle.reading.proofs.piece.Reads as piece-reads
+use Rattle.asking.proofs.piece.Reads as piece-reads
 
 -- src/questions.rt:87:9
 returns : tie.Need-returns

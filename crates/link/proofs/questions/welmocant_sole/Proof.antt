@@ -17,7 +17,7 @@ use Rattle.link.proofs.questions.welmocant_sole.Lts as lts
 use Rattle.link.proofs.questions.judge.Reads as judge-reads
 use Rattle.link.proofs.words.unpack.Reads as unpack-reads
 use Rattle.link.proofs.words.wide.Reads as wide-reads
-use Rattle.reading.proofs.sole.Reads as sole-reads
+use Rattle.asking.proofs.sole.Reads as sole-reads
 
 -- src/questions.rt:113:9
 returns : tie.Need-returns

@@ -14,27 +14,22 @@ returns c = adopt-refused _ _ _ _ _ _ (c .before .refusal-of .ensures) (λ e. om
 place-all-requires : tie.Need-place-all-requires
 place-all-requires c κs = let (b, i) = adopt-known _ _ _ _ _ (sym (c .before .before .refusal-of .ensures) ∙ omega arith) in (record { few = b .fragments; long = b .frag-long }, i)
 
-mul-blank : tie.Need-mul-blank
-mul-blank c = let (b, i) = adopt-known _ _ _ _ _ (sym (c .before .before .before .before .before .before .refusal-of .ensures) ∙ omega arith) in omega (arith, b .fragments)
+mul-clear : tie.Need-mul-clear
+mul-clear c = let (b, i) = adopt-known _ _ _ _ _ (sym (c .before .before .before .before .before .before .refusal-of .ensures) ∙ omega arith) in omega (arith, b .fragments)
 
-mul-blank-2 : tie.Need-mul-blank-2
-mul-blank-2 c = let (b, i) = adopt-known _ _ _ _ _ (sym (c .before .before .before .before .before .before .refusal-of .ensures) ∙ omega arith) in omega (arith, b .fragments)
+mul-clear-2 : tie.Need-mul-clear-2
+mul-clear-2 c = let (b, i) = adopt-known _ _ _ _ _ (sym (c .before .before .before .before .before .before .refusal-of .ensures) ∙ omega arith) in omega (arith, b .fragments)
 
-blank-requires : tie.Need-blank-requires
-blank-requires c κs = let (b, i) = adopt-known _ _ _ _ _ (sym (c .before .before .before .before .before .before .refusal-of .ensures) ∙ omega arith) in (omega arith, omega (arith, b .frag-long, c .before .before .before .place-all .ensures .as-long))
-
-mul-blank-3 : tie.Need-mul-blank-3
-mul-blank-3 c = let (b, i) = adopt-known _ _ _ _ _ (sym (c .before .before .before .before .before .before .before .before .before .before .refusal-of .ensures) ∙ omega arith) in omega (arith, mul-le-mul (b .room) (b .fragments))
-
-blank-requires-2 : tie.Need-blank-requires-2
-blank-requires-2 c κs = let (b, i) = adopt-known _ _ _ _ _ (sym (c .before .before .before .before .before .before .before .before .before .before .refusal-of .ensures) ∙ omega arith) in (omega arith, b .held-long)
+mul-clear-3 : tie.Need-mul-clear-3
+mul-clear-3 c = let (b, i) = adopt-known _ _ _ _ _ (sym (c .before .before .before .before .before .before .before .before .before .before .refusal-of .ensures) ∙ omega arith) in omega (arith, mul-le-mul (b .room) (b .fragments))
 
 returns-2 : tie.Need-returns-2
-returns-2 c = let (b, i) = adopt-known _ _ _ _ _ (sym (c .before .before .before .before .before .before .before .before .before .before .before .before .before .refusal-of .ensures) ∙ omega arith) in
-    let p = c .before .before .before .before .before .before .before .before .before .before .place-all .ensures in
-    let q = c .before .before .before .before .before .before .blank .ensures in
-    let r = c .before .before .blank2 .ensures in
-    adopt-ready _ _ _ _ _ _ (c .before .before .before .before .before .before .before .before .before .before .before .before .before .refusal-of .ensures) (omega arith) _ _ (frag-adopted _ _ _ _ _ _ _ _ b i p q r) (held-adopted _ _ _ _ _ _ _ _ b i p q r)
+returns-2 c =
+    let (b, i) = adopt-known _ _ _ _ _ (sym (c .before .before .before .before .before .before .before .before .before .before .before .before .before .before .refusal-of .ensures) ∙ omega arith) in
+    let p = c .before .before .before .before .before .before .before .before .before .before .before .place-all .ensures in
+    let q = c .before .before .before .before .before .before .before .clear .ensures in
+    let r = c .before .before .before .clear2 .ensures in
+    adopt-ready _ _ _ _ _ _ (c .before .before .before .before .before .before .before .before .before .before .before .before .before .before .refusal-of .ensures) (omega arith) _ (c .begun .ensures) _ _ (frag-adopted _ _ _ _ _ _ _ _ b i p q r) (held-adopted _ _ _ _ _ _ _ _ b i p q r)
 
 pub adopt-spec : {M : Type 1} → statement M
 adopt-spec =
@@ -43,11 +38,12 @@ adopt-spec =
     (λ c κs. search needs)
     returns
     place-all-requires
-    mul-blank
-    mul-blank-2
-    blank-requires
-    mul-blank-3
-    blank-requires-2
+    mul-clear
+    mul-clear-2
+    (λ c κs. search needs)
+    mul-clear-3
+    (λ c κs. search needs)
+    (λ c κs. search needs)
     (λ c. search needs)
     (λ c. search needs)
     returns-2)

@@ -9,7 +9,7 @@ use borrow.Author.Needs.{needs}
 use Rattle.rules.specs.Search.{every}
 use Rattle.rules.specs.Reading.{seen}
 use Rattle.state.specs.Layout.{forestIn}
-use Rattle.reading.specs.Laws.Check.{every-none, every-more, every-fails}
+use Rattle.state.specs.Laws.Tests.{every-none, every-more, every-fails}
 use Rattle.reading.proofs.closing.all_seen.Statement.{statement}
 use Rattle.reading.proofs.closing.all_seen.Tie as tie
 
@@ -21,9 +21,6 @@ abbrev μ-loop : tie.MeasureT-loop
 
 loop-holds : tie.Need-loop-holds Inv-loop μ-loop
 loop-holds c = (omega arith, every-none _)
-
-seen-at-requires : tie.Need-seen-at-requires Inv-loop μ-loop
-seen-at-requires c κs = let a = c .before .before .before in (a .pre .0, omega arith, a .pre .1 (c .before .loop .v) (omega arith))
 
 returns : tie.Need-returns Inv-loop μ-loop
 returns c = every-fails _ _ _ (omega arith) (sym (c .before .seen-at .ensures) ∙ not-true _ (c .if1 .taken))
@@ -41,7 +38,7 @@ all-seen-spec =
     Inv-loop
     μ-loop
     loop-holds
-    seen-at-requires
+    (λ c κs. search needs)
     returns
     (λ c. search needs)
     (λ c. search needs)

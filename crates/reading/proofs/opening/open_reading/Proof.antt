@@ -1,45 +1,38 @@
 -- `reading::opening::open_reading` meets its contract: refused at its head, or notes and marks cleared.
 -- Assumes nothing.
-use mathlib.Core.Path.{sym, _∙_}
 use native.Mathlib.Omega.{arith}
 use Rattle.state.specs.Close.{opens}
-use Rattle.reading.specs.Laws.Head.{head-at, head-passed, passed-room}
-use Rattle.reading.specs.Laws.Pass.{opens-settled, open-refused, open-done}
+use Rattle.tables.specs.Laws.Head.{head-is, head-passed}
+use Rattle.reading.specs.Laws.Pass.{opens-later, open-refused, open-done}
 use borrow.Author.Needs.{needs}
 use Rattle.reading.proofs.opening.open_reading.Statement.{statement}
 use Rattle.reading.proofs.opening.open_reading.Tie as tie
 
-head-requires : tie.Need-head-requires
-head-requires c κs = λ q. opens-settled (c .before .before .before .before .before .args .s .stage) (sym (c .before .before .may-open .ensures) ∙ q)
-
 returns : tie.Need-returns
-returns c = open-refused _ _ _ _ (c .before .head .ensures ∙ head-at opens _ _ _ _ (c .before .before .before .before .may-open .ensures)) (λ e. omega arith)
+returns c = open-refused _ _ _ _ (head-is opens opens-later _ _ _ _ _ (c .before .before .before .before .may-open .ensures) (c .before .head .ensures)) (λ e. omega arith)
 
-mul-blank : tie.Need-mul-blank
-mul-blank c = let p = passed-room (head-passed _ _ _ _ (sym (c .before .before .head .ensures) ∙ omega arith)) in omega (arith, p .few, p .long)
+mul-clear : tie.Need-mul-clear
+mul-clear c = let p = head-passed opens opens-later _ _ _ _ _ (c .before .before .before .before .before .may-open .ensures) (c .before .before .head .ensures) (omega arith) in omega (arith, p .bounds .fragments)
 
-mul-blank-2 : tie.Need-mul-blank-2
-mul-blank-2 c = let p = passed-room (head-passed _ _ _ _ (sym (c .before .before .head .ensures) ∙ omega arith)) in omega (arith, p .few, p .long)
-
-blank-requires : tie.Need-blank-requires
-blank-requires c κs = let p = passed-room (head-passed _ _ _ _ (sym (c .before .before .head .ensures) ∙ omega arith)) in (omega arith, omega (arith, p .few, p .long))
+mul-clear-2 : tie.Need-mul-clear-2
+mul-clear-2 c = let p = head-passed opens opens-later _ _ _ _ _ (c .before .before .before .before .before .may-open .ensures) (c .before .before .head .ensures) (omega arith) in omega (arith, p .bounds .fragments)
 
 returns-2 : tie.Need-returns-2
-returns-2 c = let p = head-passed _ _ _ _ (sym (c .before .before .before .before .before .head .ensures) ∙ omega arith) in
-    open-done _ _ _ _ (c .before .before .before .before .before .head .ensures ∙ head-at opens _ _ _ _ (c .before .before .before .before .before .before .before .before .may-open .ensures)) (omega arith) p (opens-settled (c .before .before .before .before .before .before .before .before .before .before .before .args .s .stage) (sym (c .before .before .before .before .before .before .before .before .may-open .ensures) ∙ p .may)) _ (c .before .before .blank .ensures)
+returns-2 c = open-done _ _ _ _ (head-is opens opens-later _ _ _ _ _ (c .before .before .before .before .before .before .before .before .before .may-open .ensures) (c .before .before .before .before .before .before .head .ensures)) (omega arith) (head-passed opens opens-later _ _ _ _ _ (c .before .before .before .before .before .before .before .before .before .may-open .ensures) (c .before .before .before .before .before .before .head .ensures) (omega arith)) _ (c .before .before .before .clear .ensures) _ (c .moved .ensures)
 
 pub open-reading-spec : {M : Type 1} → statement M
 open-reading-spec =
     tie.close
     (tie.spec
     (λ c κs. search needs)
-    head-requires
+    (λ c κs. search needs)
     (λ c. search needs)
     (λ c. search needs)
     returns
-    mul-blank
-    mul-blank-2
-    blank-requires
+    mul-clear
+    mul-clear-2
+    (λ c κs. search needs)
+    (λ c κs. search needs)
     (λ c. search needs)
     (λ c. search needs)
     returns-2)

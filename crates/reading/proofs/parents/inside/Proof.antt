@@ -8,7 +8,7 @@ use Rattle.reading.specs.Laws.Adopt.{inside-fails, inside-more}
 use borrow.Author.Needs.{needs}
 use Rattle.rules.specs.Search.{every}
 use Rattle.reading.specs.Adopt.{below}
-use Rattle.reading.specs.Laws.Check.{every-none}
+use Rattle.state.specs.Laws.Tests.{every-none}
 use Rattle.reading.proofs.parents.inside.Statement.{statement}
 use Rattle.reading.proofs.parents.inside.Tie as tie
 

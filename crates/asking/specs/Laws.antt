@@ -1,0 +1,5 @@
+-- The lemmas that the proofs of the code rest on.
+-- Assumes nothing.
+pub mod Asked
+pub mod Count
+pub mod Cut

@@ -1,0 +1,106 @@
+-- What the head of a question gives, and the answers of the questions.
+-- Assumes nothing.
+use Prim.Native.Nat.{ℕ, _*_, _≤_, _<_}
+use mathlib.Core.Path.{_≡_, refl, sym, ap, _∙_}
+use mathlib.Core.Bool.{Bool, true, false}
+use mathlib.Core.List.{List}
+use native.Mathlib.Omega.{arith}
+use lib.ListN.{getD, take, drop, getD-replicate, length-take, length-drop}
+use lib.Seq.{getD-take, getD-drop}
+use Rattle.base.specs.Pick.{tests}
+use Rattle.base.specs.Answer.{gives, refuses}
+use Rattle.rules.specs.Tables.{parentOf, rank, noteOf, placed, par, lev}
+use Rattle.rules.specs.Reading.{above, lowest, reach, childOf, soleBelow, sole, cut, rootOf, piece}
+use Rattle.state.specs.Layout.{stored, tablesIn, forestIn}
+use Rattle.state.specs.Test.{isBuilding, isRead}
+use Rattle.state.specs.Call.{headRefusal}
+use Rattle.state.specs.Ask.{asks, askOne, askTwo}
+use Rattle.state.specs.Laws.Lists.{all-zeros}
+use Rattle.state.specs.declared.State.{State}
+use Rattle.state.specs.declared.Stage.{Stage}
+use Rattle.state.specs.declared.Stage.the-variants.{Building, Built, Reading, Read}
+use Rattle.asking.specs.Cut.{Unmarked}
+use Rattle.tables.specs.Laws.Head.{Passed}
+
+-- The stages of a question are not Building.
+pub asks-later : (g : Stage) → asks g ≡ true → isBuilding g ≡ false
+asks-later Building e = sym e
+asks-later Built e = refl
+asks-later Reading e = refl
+asks-later Read e = refl
+
+pub read-later : (g : Stage) → isRead g ≡ true → isBuilding g ≡ false
+read-later Building e = sym e
+read-later Built e = refl
+read-later Reading e = refl
+read-later Read e = refl
+
+-- No mark stands in a table that the head let pass.
+pub passed-unmarked : {s : State} {f h : List ℕ} → Passed s f h → Unmarked (s .n) f
+passed-unmarked {s} {f} {h} p c l =
+    let n = s .n in
+    let long = p .bounds .frag-long in
+    let z = all-zeros (take (12 * n) (drop (stored * n) f)) (12 * n) (simp (length-take, length-drop) (omega arith)) (p .found .scratch) in
+    sym (getD-drop (stored * n) f c 0) ∙ sym (getD-take (12 * n) (drop (stored * n) f) c 0 (omega arith)) ∙ ap (λ (x : List ℕ). getD x c 0) z ∙ getD-replicate (12 * n) c 0 0 (omega arith)
+
+-- The questions are asked of the fragment table alone.
+module _ (s : State) (f h : List ℕ) where
+  pub same-parentOf : (v : ℕ) → parentOf (forestIn (s .n) f) v ≡ parentOf (tablesIn s f h) v
+  unfolding parentOf tablesIn
+  same-parentOf v = refl
+
+  pub same-lev : (v : ℕ) → lev (forestIn (s .n) f) v ≡ lev (tablesIn s f h) v
+  unfolding lev rank tablesIn
+  same-lev v = refl
+
+  pub same-piece : (v : ℕ) → piece (s .n) (forestIn (s .n) f) v ≡ piece (s .n) (tablesIn s f h) v
+  unfolding piece rootOf par lev placed rank parentOf tablesIn
+  same-piece v = refl
+
+  pub same-sole : (a b : ℕ) → sole (s .n) (forestIn (s .n) f) a b ≡ sole (s .n) (tablesIn s f h) a b
+  unfolding sole soleBelow reach above lowest childOf par lev placed rank parentOf noteOf tablesIn
+  same-sole a b = refl
+
+  pub same-cut : (v : ℕ) → cut (s .n) (forestIn (s .n) f) v ≡ cut (s .n) (tablesIn s f h) v
+  unfolding cut reach above lowest childOf par lev placed rank parentOf noteOf tablesIn
+  same-cut v = refl
+
+-- The answers of a question about one fragment, r being the head's refusal.
+module _ {A : Type 0} (allowed : Stage → Bool) (s : State) (f h : List ℕ) (r : ℕ) (e : r ≡ headRefusal allowed s f h) (x : A) (v : ℕ) where
+  pub one-refused : (r ≡ 0 → ⊥) → refuses r 0 ≡ askOne allowed s f h v x
+  unfolding askOne
+  one-refused d = rw (← e) (simp tests)
+
+  module _ (z : r ≡ 0) where
+    pub one-far : s .n ≤ v → refuses 4 0 ≡ askOne allowed s f h v x
+    unfolding askOne
+    one-far l = rw (← e) (simp tests)
+
+    pub one-answer : v < s .n → gives x ≡ askOne allowed s f h v x
+    unfolding askOne
+    one-answer l = rw (← e) (simp tests)
+
+-- The answers of a question about two fragments.
+module _ {A : Type 0} (allowed : Stage → Bool) (s : State) (f h : List ℕ) (r : ℕ) (e : r ≡ headRefusal allowed s f h) (x : A) (a b : ℕ) where
+  pub two-refused : (r ≡ 0 → ⊥) → refuses r 0 ≡ askTwo allowed s f h a b x
+  unfolding askTwo
+  two-refused d = rw (← e) (simp tests)
+
+  module _ (z : r ≡ 0) where
+    pub two-first : s .n ≤ a → refuses 4 0 ≡ askTwo allowed s f h a b x
+    unfolding askTwo
+    two-first l = rw (← e) (simp tests)
+
+    module _ (k : a < s .n) where
+      pub two-second : s .n ≤ b → refuses 4 0 ≡ askTwo allowed s f h a b x
+      unfolding askTwo
+      two-second l = rw (← e) (simp tests)
+
+      module _ (l : b < s .n) where
+        pub two-same : a ≡ b → refuses 5 0 ≡ askTwo allowed s f h a b x
+        unfolding askTwo
+        two-same q = rw (← e) (simp tests)
+
+        pub two-answer : (a ≡ b → ⊥) → gives x ≡ askTwo allowed s f h a b x
+        unfolding askTwo
+        two-answer q = rw (← e) (simp tests)

@@ -1,0 +1,91 @@
+// The questions that search the forest: piece, sole and cut.
+ghost use mathlib.Core.Path.{_≡_};
+ghost use Rattle.base.specs.Answer.{gives, refuses};
+ghost use Rattle.state.specs.Ask.{pieceCall, soleCall, cutCall};
+ghost use Rattle.state.specs.Told.{askedTold, judgedTold};
+use crate::count::is_sole;
+use crate::count::smallest;
+use crate::cutting::is_cut;
+use numbers::Refusal;
+use state::Asked;
+use state::Judged;
+use state::State;
+use state::is_building;
+use state::is_read;
+use tables::head;
+
+pub fn piece(s: State, frag: &[u32], held: &[u32], v: usize) -> Asked
+    ensures { λ r. ⌜ askedTold r ≡ pieceCall s (now (frag .entry)) (now (held .entry)) v ⌝ }
+{
+    let stage = s.stage;
+    let refusal = head(s, !is_building(stage), frag, held);
+    if refusal != 0 {
+        return Asked::Refused(Refusal {
+            number: refusal,
+            place: 0,
+        });
+    }
+    let n = s.n;
+    if n <= v {
+        return Asked::Refused(Refusal {
+            number: 4,
+            place: 0,
+        });
+    }
+    Asked::Number(smallest(frag, n, v))
+}
+
+fn judged(yes: bool) -> Judged
+    ensures { λ r. ⌜ judgedTold r ≡ gives yes ⌝ }
+{
+    if yes {
+        return Judged::Yes;
+    }
+    Judged::No
+}
+
+fn not_judged(number: u32) -> Judged
+    ensures { λ r. ⌜ judgedTold r ≡ refuses number 0 ⌝ }
+{
+    Judged::Refused(Refusal {
+        number: number,
+        place: 0,
+    })
+}
+
+pub fn sole(s: State, frag: &[u32], held: &[u32], a: usize, b: usize) -> Judged
+    ensures { λ r. ⌜ judgedTold r ≡ soleCall s (now (frag .entry)) (now (held .entry)) a b ⌝ }
+{
+    let stage = s.stage;
+    let refusal = head(s, is_read(stage), frag, held);
+    if refusal != 0 {
+        return not_judged(refusal);
+    }
+    let n = s.n;
+    if n <= a {
+        return not_judged(4);
+    }
+    if n <= b {
+        return not_judged(4);
+    }
+    if a == b {
+        return not_judged(5);
+    }
+    judged(is_sole(frag, n, a, b))
+}
+
+// The fragment table is lent to work in; it is left as found.
+pub fn cut(s: State, frag: &mut [u32], held: &[u32], v: usize) -> Judged
+    ensures { λ r. ⌜ (judgedTold r ≡ cutCall s (now (frag .entry)) (now (held .entry)) v) × (now (frag .exit) ≡ now (frag .entry)) ⌝ }
+{
+    let stage = s.stage;
+    let refusal = head(s, is_read(stage), frag, held);
+    if refusal != 0 {
+        return not_judged(refusal);
+    }
+    let n = s.n;
+    if n <= v {
+        return not_judged(4);
+    }
+    judged(is_cut(frag, n, v))
+}
