@@ -17,8 +17,10 @@
 
 pub mod plain;
 
-mod linked {
+mod c {
     extern "C" {
+        pub fn welmocant_head(file: *const u8, bytes: usize, n: *mut u32, begins: *mut u64) -> u32;
+        pub fn welmocant_whole(buffer: *const u8, bytes: usize) -> usize;
         pub fn welmocant_start(n: u32, k: u32, state: *mut u32, states: usize, frag: *mut u32, frags: usize, held: *mut u32, helds: usize) -> u32;
         pub fn welmocant_adopt(n: u32, k: u32, parents: *const u32, count: usize, state: *mut u32, states: usize, frag: *mut u32, frags: usize, held: *mut u32, helds: usize) -> u32;
         pub fn welmocant_open_reading(state: *mut u32, states: usize, frag: *mut u32, frags: usize, held: *mut u32, helds: usize) -> u32;
@@ -105,7 +107,7 @@ impl Forest {
         let mut f = Forest { state: [0; STATE], frag, held };
         // Each pointer goes with the length of the slice that it comes from, here and below.
         let number = unsafe {
-            linked::welmocant_start(n, k, f.state.as_mut_ptr(), STATE, f.frag.as_mut_ptr(), f.frag.len(), f.held.as_mut_ptr(), f.held.len())
+            c::welmocant_start(n, k, f.state.as_mut_ptr(), STATE, f.frag.as_mut_ptr(), f.frag.len(), f.held.as_mut_ptr(), f.held.len())
         };
         done(number, 0).map(|_| f)
     }
@@ -116,14 +118,14 @@ impl Forest {
         let (frag, held) = Forest::room(n.min(32_768), k.min(64));
         let mut f = Forest { state: [0; STATE], frag, held };
         let number = unsafe {
-            linked::welmocant_adopt(n, k, parents.as_ptr(), parents.len(), f.state.as_mut_ptr(), STATE, f.frag.as_mut_ptr(), f.frag.len(), f.held.as_mut_ptr(), f.held.len())
+            c::welmocant_adopt(n, k, parents.as_ptr(), parents.len(), f.state.as_mut_ptr(), STATE, f.frag.as_mut_ptr(), f.frag.len(), f.held.as_mut_ptr(), f.held.len())
         };
         done(number, 0).map(|_| f)
     }
 
     pub fn open_reading(&mut self) -> Result<(), Refusal> {
         let number = unsafe {
-            linked::welmocant_open_reading(self.state.as_mut_ptr(), STATE, self.frag.as_mut_ptr(), self.frag.len(), self.held.as_mut_ptr(), self.held.len())
+            c::welmocant_open_reading(self.state.as_mut_ptr(), STATE, self.frag.as_mut_ptr(), self.frag.len(), self.held.as_mut_ptr(), self.held.len())
         };
         done(number, 0)
     }
@@ -132,7 +134,7 @@ impl Forest {
     pub fn take(&mut self, block: &[u8]) -> Result<(), Refusal> {
         let mut place = 0;
         let number = unsafe {
-            linked::welmocant_take(self.state.as_mut_ptr(), STATE, self.frag.as_mut_ptr(), self.frag.len(), self.held.as_mut_ptr(), self.held.len(), block.as_ptr(), block.len(), &mut place)
+            c::welmocant_take(self.state.as_mut_ptr(), STATE, self.frag.as_mut_ptr(), self.frag.len(), self.held.as_mut_ptr(), self.held.len(), block.as_ptr(), block.len(), &mut place)
         };
         done(number, place)
     }
@@ -140,7 +142,7 @@ impl Forest {
     pub fn close(&mut self) -> Result<Ending, Refusal> {
         let mut ending = 0;
         let number = unsafe {
-            linked::welmocant_close(self.state.as_mut_ptr(), STATE, self.frag.as_mut_ptr(), self.frag.len(), self.held.as_mut_ptr(), self.held.len(), &mut ending)
+            c::welmocant_close(self.state.as_mut_ptr(), STATE, self.frag.as_mut_ptr(), self.frag.len(), self.held.as_mut_ptr(), self.held.len(), &mut ending)
         };
         answered(number, ending).map(|e| match e {
             0 => Ending::More,
@@ -152,7 +154,7 @@ impl Forest {
     pub fn parent(&self, v: u32) -> Result<u32, Refusal> {
         let mut answer = 0;
         let number = unsafe {
-            linked::welmocant_parent(self.state.as_ptr(), STATE, self.frag.as_ptr(), self.frag.len(), self.held.as_ptr(), self.held.len(), v, &mut answer)
+            c::welmocant_parent(self.state.as_ptr(), STATE, self.frag.as_ptr(), self.frag.len(), self.held.as_ptr(), self.held.len(), v, &mut answer)
         };
         answered(number, answer).map(|x| x as u32)
     }
@@ -160,7 +162,7 @@ impl Forest {
     pub fn level(&self, v: u32) -> Result<u32, Refusal> {
         let mut answer = 0;
         let number = unsafe {
-            linked::welmocant_level(self.state.as_ptr(), STATE, self.frag.as_ptr(), self.frag.len(), self.held.as_ptr(), self.held.len(), v, &mut answer)
+            c::welmocant_level(self.state.as_ptr(), STATE, self.frag.as_ptr(), self.frag.len(), self.held.as_ptr(), self.held.len(), v, &mut answer)
         };
         answered(number, answer).map(|x| x as u32)
     }
@@ -168,7 +170,7 @@ impl Forest {
     pub fn piece(&self, v: u32) -> Result<u32, Refusal> {
         let mut answer = 0;
         let number = unsafe {
-            linked::welmocant_piece(self.state.as_ptr(), STATE, self.frag.as_ptr(), self.frag.len(), self.held.as_ptr(), self.held.len(), v, &mut answer)
+            c::welmocant_piece(self.state.as_ptr(), STATE, self.frag.as_ptr(), self.frag.len(), self.held.as_ptr(), self.held.len(), v, &mut answer)
         };
         answered(number, answer).map(|x| x as u32)
     }
@@ -177,7 +179,7 @@ impl Forest {
     pub fn cut(&mut self, v: u32) -> Result<bool, Refusal> {
         let mut answer = 0;
         let number = unsafe {
-            linked::welmocant_cut(self.state.as_ptr(), STATE, self.frag.as_mut_ptr(), self.frag.len(), self.held.as_ptr(), self.held.len(), v, &mut answer)
+            c::welmocant_cut(self.state.as_ptr(), STATE, self.frag.as_mut_ptr(), self.frag.len(), self.held.as_ptr(), self.held.len(), v, &mut answer)
         };
         answered(number, answer).map(|x| x == 1)
     }
@@ -185,7 +187,7 @@ impl Forest {
     pub fn sole(&self, a: u32, b: u32) -> Result<bool, Refusal> {
         let mut answer = 0;
         let number = unsafe {
-            linked::welmocant_sole(self.state.as_ptr(), STATE, self.frag.as_ptr(), self.frag.len(), self.held.as_ptr(), self.held.len(), a, b, &mut answer)
+            c::welmocant_sole(self.state.as_ptr(), STATE, self.frag.as_ptr(), self.frag.len(), self.held.as_ptr(), self.held.len(), a, b, &mut answer)
         };
         answered(number, answer).map(|x| x == 1)
     }
@@ -212,6 +214,18 @@ impl Forest {
     }
 }
 
+/// The head of a list file, from its first bytes: the number of fragments, and the byte where the links begin.
+pub fn head(file: &[u8]) -> Result<(u32, u64), Refusal> {
+    let (mut n, mut begins) = (0, 0);
+    let number = unsafe { c::welmocant_head(file.as_ptr(), file.len(), &mut n, &mut begins) };
+    answered(number, begins).map(|begins| (n, begins))
+}
+
+/// How many of a buffer's bytes are whole links: a block. The others begin the next buffer; at the list's end they are taken as they are.
+pub fn whole(buffer: &[u8]) -> usize {
+    unsafe { c::welmocant_whole(buffer.as_ptr(), buffer.len()) }
+}
+
 /// A number in groups of seven bits, lowest first.
 pub fn put_number(bytes: &mut Vec<u8>, mut x: u32) {
     while x >= 128 {
@@ -235,6 +249,41 @@ pub fn block(links: &[(u32, u32)]) -> Vec<u8> {
 mod tests {
     use super::*;
 
+    /// Heads of list files: n at its limits, every refusal, and the links' first byte.
+    #[test]
+    fn heads() {
+        let refused = |number| Err(Refusal { number, place: 0 });
+        for (bytes, answer) in [
+            (&[4u8, 0, 1][..], Ok((4, 1))),
+            (&[0x80, 0x80, 0x02], Ok((32_768, 3))),
+            (&[0x81, 0x80, 0x02], refused(1)),
+            (&[0], refused(1)),
+            (&[0x80, 0], refused(7)),
+            (&[0x80, 0x80, 0x80], refused(7)),
+            (&[0x80, 0x80], refused(8)),
+            (&[], refused(8)),
+        ] {
+            assert_eq!(head(bytes), answer, "{bytes:?}");
+        }
+    }
+
+    /// Links of two to six bytes, cut at every byte: the bytes of whole links, and all of them from a number in a wrong form on.
+    #[test]
+    fn wholes() {
+        let mut bytes = vec![];
+        let mut ends = vec![0];
+        for (a, b) in [(1, 2), (127, 128), (128, 128), (3, 16_384), (16_384, 130), (32_767, 32_766)] {
+            put_number(&mut bytes, a);
+            put_number(&mut bytes, b);
+            ends.push(bytes.len());
+        }
+        for len in 0..=bytes.len() {
+            let last = ends.iter().rev().find(|&&end| end <= len).unwrap();
+            assert_eq!(whole(&bytes[..len]), *last, "{len} bytes");
+        }
+        assert_eq!(whole(&[1, 2, 0x80, 0, 5]), 5);
+    }
+
     /// An array too short for a state: 3, after 1 and 2 where n and k are given.
     #[test]
     fn short_state() {
@@ -244,17 +293,17 @@ mod tests {
         // Six words are lent of six, and so for the tables: no call may touch more.
         unsafe {
             for (n, k, number) in [(1, 1, 3), (0, 1, 1), (1, 65, 2), (2, 1, 3)] {
-                assert_eq!(linked::welmocant_start(n, k, s, 6, f, 16, h, 1), number);
-                assert_eq!(linked::welmocant_adopt(n, k, parents.as_ptr(), 1, s, 6, f, 16, h, 1), number);
+                assert_eq!(c::welmocant_start(n, k, s, 6, f, 16, h, 1), number);
+                assert_eq!(c::welmocant_adopt(n, k, parents.as_ptr(), 1, s, 6, f, 16, h, 1), number);
             }
-            assert_eq!(linked::welmocant_open_reading(s, 6, f, 16, h, 1), 3);
-            assert_eq!(linked::welmocant_take(s, 6, f, 16, h, 1, [].as_ptr(), 0, &mut out), 3);
-            assert_eq!(linked::welmocant_close(s, 6, f, 16, h, 1, &mut out), 3);
-            assert_eq!(linked::welmocant_parent(s, 6, f, 16, h, 1, 0, &mut out), 3);
-            assert_eq!(linked::welmocant_level(s, 6, f, 16, h, 1, 0, &mut out), 3);
-            assert_eq!(linked::welmocant_piece(s, 6, f, 16, h, 1, 0, &mut out), 3);
-            assert_eq!(linked::welmocant_cut(s, 6, f, 16, h, 1, 0, &mut out), 3);
-            assert_eq!(linked::welmocant_sole(s, 6, f, 16, h, 1, 0, 0, &mut out), 3);
+            assert_eq!(c::welmocant_open_reading(s, 6, f, 16, h, 1), 3);
+            assert_eq!(c::welmocant_take(s, 6, f, 16, h, 1, [].as_ptr(), 0, &mut out), 3);
+            assert_eq!(c::welmocant_close(s, 6, f, 16, h, 1, &mut out), 3);
+            assert_eq!(c::welmocant_parent(s, 6, f, 16, h, 1, 0, &mut out), 3);
+            assert_eq!(c::welmocant_level(s, 6, f, 16, h, 1, 0, &mut out), 3);
+            assert_eq!(c::welmocant_piece(s, 6, f, 16, h, 1, 0, &mut out), 3);
+            assert_eq!(c::welmocant_cut(s, 6, f, 16, h, 1, 0, &mut out), 3);
+            assert_eq!(c::welmocant_sole(s, 6, f, 16, h, 1, 0, 0, &mut out), 3);
         }
         assert_eq!((state, frag, held, out), ([5; 6], [8; 16], [8], 0));
     }

@@ -27,8 +27,10 @@ use Rattle.state.specs.Laws.Keeps.{head-known}
 use Rattle.state.specs.declared.State.{State}
 use Rattle.state.specs.declared.Stage.{Stage}
 use Rattle.state.specs.declared.Stage.the-variants.{Building, Built, Reading, Read}
-use Rattle.lines.specs.Report.{fragmentAt, fragmentLine, soleAt, soleLine, solesFrom, linesTo, reportLines, store, reportCall, reportMost}
-use Rattle.lines.specs.Text.{Put, Line, put-none, put-then, line-then, line-less}
+use Rattle.text.specs.Lines.{fragmentLine, soleLine, store}
+use Rattle.text.specs.Put.{Put, Line, ample, within}
+use Rattle.text.specs.Laws.Put.{put-none, put-then, line-then, line-less, within-back}
+use Rattle.lines.specs.Report.{fragmentAt, soleAt, solesFrom, linesTo, reportLines, reportCall, reportMost}
 
 -- A number or a verdict that was asked for; a refusal counts as 0 and as no.
 abbrev pub numberOf : Answer ℕ → ℕ
@@ -120,10 +122,10 @@ pub lines-end : (line : ℕ → List ℕ) {v n m b at r : ℕ} {out after : List
 lines-end line e h p = rw e at (line-less h p)
 
 -- The line of a fragment.
-pub fragment-put : (n : ℕ) (t : Tables) (v p q : ℕ) (c : Bool) {at r : ℕ} {out after : List ℕ} → p ≡ parentOf t v → q ≡ piece n t v → c ≡ cut n t v
-    → Line (fragmentLine v p q c) 200 at out r after → Line (fragmentAt n t v) 200 at out r after
+pub fragment-put : (n : ℕ) (t : Tables) (v p q : ℕ) (c : Bool) {at r : ℕ} {out after : List ℕ} → at ≤ ample → p ≡ parentOf t v → q ≡ piece n t v → c ≡ cut n t v
+    → Line (within at (fragmentLine v p q c)) 200 at out r after → Line (fragmentAt n t v) 200 at out r after
 unfolding fragmentAt
-fragment-put n t v p q c e f g l = (rw (e, f, g) at l)
+fragment-put n t v p q c h e f g l = (rw (e, f, g) at (within-back h l))
 
 -- The line of a link, or none.
 module _ (n : ℕ) (t : Tables) (a b : ℕ) (at : ℕ) (out : List ℕ) where
@@ -142,9 +144,9 @@ module _ (n : ℕ) (t : Tables) (a b : ℕ) (at : ℕ) (out : List ℕ) where
   unfolding soleAt
   sole-not h e = no-line (simp (tests, e))
 
-  pub sole-put : (r : ℕ) (after : List ℕ) → a < b → sole n t a b ≡ true → Line (soleLine a b) 100 at out r after → Line (soleAt n t a b) 100 at out r after
+  pub sole-put : (r : ℕ) (after : List ℕ) → at ≤ ample → a < b → sole n t a b ≡ true → Line (within at (soleLine a b)) 100 at out r after → Line (soleAt n t a b) 100 at out r after
   unfolding soleAt
-  sole-put r after h e l = simp (tests, e) l
+  sole-put r after i h e l = simp (tests, e) (within-back i l)
 
 -- The parents of the fragments below v, and the next.
 pub parents-none : (t : Tables) (ps : List ℕ) → Parents 0 t ps

@@ -1,32 +1,27 @@
+-- `parts::in_block` meets its contract.
+-- Assumes nothing.
 use mathlib.Core.Path.{refl}
 use Rattle.parts.specs.Parts.{inBlock}
 use Rattle.parts.specs.Steps.{block-is, block-last}
 use Rattle.parts.proofs.in_block.Statement.{statement}
 use Rattle.parts.proofs.in_block.Tie as tie
-use Rattle.parts.proofs.in_block.Reads as reads
-use Rattle.parts.proofs.in_block.Lts as lts
 
--- src/lib.rt:72:9
 returns : tie.Need-returns
 unfolding inBlock
 returns c = block-is 4 _ (c .if1 .taken) refl
 
--- src/lib.rt:75:9
 returns-2 : tie.Need-returns-2
 unfolding inBlock
 returns-2 c = block-is 5 _ (c .if2 .taken) refl
 
--- src/lib.rt:78:9
 returns-3 : tie.Need-returns-3
 unfolding inBlock
 returns-3 c = block-is 7 _ (c .if3 .taken) refl
 
--- src/lib.rt:81:9
 returns-4 : tie.Need-returns-4
 unfolding inBlock
 returns-4 c = block-is 8 _ (c .if4 .taken) refl
 
--- src/lib.rt:68:1
 returns-5 : tie.Need-returns-5
 returns-5 c = block-last _ (c .before .before .before .if1 .left) (c .before .before .if2 .left) (c .before .if3 .left) (c .if4 .left)
 

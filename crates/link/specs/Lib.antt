@@ -1,3 +1,0 @@
-pub mod State
-pub mod Call
-pub mod Laws

@@ -1,0 +1,48 @@
+// The lines of the report as text.
+ghost use mathlib.Core.Path.{_≡_};
+ghost use Rattle.base.specs.Answer.{refuses};
+ghost use Rattle.numbers.specs.Answers.{toldEnd, wrote};
+ghost use Rattle.text.specs.Lines.{refusalLine, noFileLine, store};
+pub use lines::first_line;
+pub use lines::fragment_line;
+pub use lines::sole_line;
+use numbers::Refusal;
+use numbers::Written;
+
+mod lines;
+
+// Refuses a text.
+pub fn not_written(number: u32) -> Written
+    ensures { λ r. ⌜ toldEnd r ≡ refuses number 0 ⌝ }
+{
+    Written::Refused(Refusal {
+        number: number,
+        place: 0,
+    })
+}
+
+// Writes the line of a refusal.
+pub fn refusal_line(number: u32, place: usize, out: &mut [u8]) -> Written
+    ensures { λ r. ⌜ wrote r (now (out .exit)) ≡ store (now (out .entry)) (refusalLine number place) ⌝ }
+{
+    let mut none = [0u8; 1];
+    let size = lines::refusal_text(&mut none, number as u64, place as u64);
+    if out.len() < size {
+        return not_written(3);
+    }
+    lines::refusal_text(out, number as u64, place as u64);
+    Written::End(size)
+}
+
+// Writes the line that says that there is no file.
+pub fn no_file_line(out: &mut [u8]) -> Written
+    ensures { λ r. ⌜ wrote r (now (out .exit)) ≡ store (now (out .entry)) noFileLine ⌝ }
+{
+    let mut none = [0u8; 1];
+    let size = lines::no_file_text(&mut none);
+    if out.len() < size {
+        return not_written(3);
+    }
+    lines::no_file_text(out);
+    Written::End(size)
+}
