@@ -6,6 +6,7 @@ ghost use lib.ListN.{length};
 ghost use Rattle.rules.specs.Search.{count, every};
 ghost use Rattle.rules.specs.Tables.{placed as isPlaced};
 ghost use Rattle.state.specs.Layout.{forestIn};
+ghost use Rattle.state.specs.Call.{fragmentsMost, roomMost};
 ghost use Rattle.state.specs.Test.{isReading, isRead, standsAt, clearAt, asked as askedIf};
 ghost use Rattle.state.specs.Laws.Bounds.{Bounds};
 ghost use Rattle.tables.specs.Test.{markAt, waitsAt, notedAt, fragmentFits, countsHold, stageHolds, soundButLinks};
@@ -164,7 +165,7 @@ fn asked(test: bool, clause: bool) -> bool
 
 // What the test asks of the counts, where so many fragments are placed.
 fn counts_hold(s: State, placed: usize) -> bool
-    requires { ⌜ (s .n ≤ 32768) × (s .k ≤ 64) × (placed ≤ s .n) ⌝ }
+    requires { ⌜ (s .n ≤ fragmentsMost) × (s .k ≤ roomMost) × (placed ≤ s .n) ⌝ }
     ensures { λ r. ⌜ r ≡ countsHold s placed ⌝ }
 {
     if placed + 1 < s.passes {
