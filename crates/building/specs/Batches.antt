@@ -3,10 +3,10 @@
 use Prim.Native.Nat.{ℕ, _+_, _*_, _/_, _%_, _≤_, _<_}
 use mathlib.Core.Path.{_≡_}
 use mathlib.Core.Bool.{Bool, true, false}
-use mathlib.Core.List.{List, map}
+use mathlib.Core.List.{List}
 use mathlib.Core.Logic.{_≢_}
-use lib.ListN.{length, getD, take}
-use Rattle.state.specs.Layout.{words, stored, linkIn}
+use lib.ListN.{length, getD}
+use Rattle.state.specs.Layout.{words, stored, heldLinks, heldLink}
 use Rattle.state.specs.Test.{noneTwice}
 use Rattle.state.specs.Call.{fragmentsMost, roomMost}
 use Rattle.building.specs.Index.{flag, Open, Indexed, In, Outside}
@@ -74,7 +74,7 @@ pub record Misses (at size from to c classes : ℕ) (f h : List ℕ) (r : Bool) 
 
 -- Each of the first `count` words is a link between two of n fragments, the smaller end first.
 abbrev pub Sorted : (n count : ℕ) (h : List ℕ) → Type 0
-Sorted n count h = (i : ℕ) → i < count → (linkIn (getD h i 0) .0 < linkIn (getD h i 0) .1) × (linkIn (getD h i 0) .1 < n)
+Sorted n count h = (i : ℕ) → i < count → (heldLink h i .0 < heldLink h i .1) × (heldLink h i .1 < n)
 
 pub record Comparable (n count : ℕ) (f h : List ℕ) : Type 0 where
   pub few-fragments : n ≤ fragmentsMost
@@ -93,6 +93,6 @@ pub record Sifts (n count c classes : ℕ) (f h : List ℕ) (r : Bool) (f′ : L
 
 -- 'none twice'. Scratch is 0 again where the links differ.
 pub record Compares (n count : ℕ) (f h : List ℕ) (r : Bool) (f′ : List ℕ) : Type 0 where
-  pub answer : r ≡ noneTwice (map linkIn (take count h))
+  pub answer : r ≡ noneTwice (heldLinks count h)
   pub outside : Outside (stored * n) (12 * n) f f′
   pub back : r ≡ true → f′ ≡ f

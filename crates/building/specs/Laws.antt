@@ -1,24 +1,14 @@
 -- Laws about the definitions, and the lemmas that the proofs of the code rest on.
 -- Assumes nothing.
 pub mod Scratch
+pub mod Passed
 pub mod Pieces
 pub mod Gather
+pub mod Gathered
 pub mod Index
 pub mod Batches
 pub mod Noted
 pub mod Telling
 pub mod Take
-pub mod Sorting
-pub mod Arranging
-pub mod Choosing
-pub mod Seeking
-pub mod Walking
-pub mod Members
-pub mod Frames
-pub mod Copying
-pub mod Saving
-pub mod Placing
-pub mod Ending
 pub mod Check
-pub mod Close
 pub mod Test

@@ -1,12 +1,8 @@
+pub mod Gathered
 pub mod Pieces
 pub mod Index
 pub mod Batches
 pub mod Noted
 pub mod Telling
-pub mod Sorting
-pub mod Arranged
-pub mod Arranging
-pub mod Walk
-pub mod Closing
 pub mod Check
 pub mod Laws

@@ -3,12 +3,12 @@
 use Prim.Native.Nat.{ℕ, _+_, _-_, _*_, _%_, _≤_, _<_}
 use mathlib.Core.Path.{_≡_}
 use mathlib.Core.Bool.{Bool}
-use mathlib.Core.List.{List, [], _∷_, _++_, map}
+use mathlib.Core.List.{List, [], _∷_, _++_}
 use mathlib.Core.Logic.{_≢_}
 use lib.ListN.{length, getD, take, drop}
 use lib.Dec.{T, leb}
 use Rattle.rules.specs.Links.{Link, linked}
-use Rattle.state.specs.Layout.{words, linkIn}
+use Rattle.state.specs.Layout.{words, linkIn, heldLinks, heldLink}
 use Rattle.state.specs.Call.{fragmentsMost}
 use Rattle.building.specs.Index.{flag, Place, Indexed, In}
 use Rattle.building.specs.Batches.{Sorted}
@@ -49,12 +49,12 @@ pub record Askable (n count a b : ℕ) (f h : List ℕ) : Type 0 where
   pub long : words * n ≤ length f
   pub there : count ≤ length h
   pub ends : Ends n a b
-  pub inside : (i : ℕ) → i < count → (linkIn (getD h i 0) .0 < linkIn (getD h i 0) .1) × (linkIn (getD h i 0) .1 < n)
-  pub noted : Noted n (map linkIn (take count h)) f
+  pub inside : (i : ℕ) → i < count → (heldLink h i .0 < heldLink h i .1) × (heldLink h i .1 < n)
+  pub noted : Noted n (heldLinks count h) f
 
 pub record Answers (n count a b : ℕ) (f h : List ℕ) (r : Bool) (f′ : List ℕ) : Type 0 where
-  pub held : r ≡ linked (map linkIn (take count h)) a b
-  pub noted : Noted n (map linkIn (take count h)) f′
+  pub held : r ≡ linked (heldLinks count h) a b
+  pub noted : Noted n (heldLinks count h) f′
   pub apart : Apart n f f′
 
 -- One more link is held, whatever links were.

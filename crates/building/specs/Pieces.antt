@@ -2,20 +2,18 @@
 -- Assumes nothing.
 use Prim.Native.Nat.{ℕ, suc, _+_, _-_, _*_, _≤_, _<_}
 use mathlib.Core.Path.{_≡_}
-use mathlib.Core.List.{List, [], _∷_, _++_, map}
+use mathlib.Core.List.{List, [], _∷_, _++_}
 use mathlib.Core.Logic.{_≢_}
-use lib.ListN.{length, getD, take, drop, replicate}
-use lib.Dec.{T}
+use lib.ListN.{length, getD, set, take, drop}
+use lib.Dec.{T, eqb}
+use Rattle.base.specs.Pick.{pick}
 use Rattle.rules.specs.Links.{Link}
 use Rattle.rules.specs.Building.{pieces, sizeOf, heldIn}
 use Rattle.rules.specs.Laws.Pieces.{Inside}
-use Rattle.state.specs.Layout.{words, stored, linkIn}
+use Rattle.state.specs.Layout.{words, stored, heldLinks}
 use Rattle.state.specs.Test.{allZero}
 use Rattle.state.specs.Call.{fragmentsMost}
-
--- The words of a list from one place to another cleared.
-unfoldable pub wiped : ℕ → ℕ → List ℕ → List ℕ
-wiped from to l = take from l ++ (replicate (to - from) 0 ++ drop to l)
+use Rattle.building.specs.Gathered.{withPieces}
 
 -- The ends of a link.
 pub record Ends (n a b : ℕ) : Type 0 where
@@ -84,8 +82,32 @@ pub record Gatherable (n : ℕ) (f h : List ℕ) (count : ℕ) : Type 0 where
   pub blank : T (allZero (take ((words - stored) * n) (drop (stored * n) f)))
   pub few : count ≤ heldMost
   pub there : count ≤ length h
-  pub inside : Inside n (map linkIn (take count h))
+  pub inside : Inside n (heldLinks count h)
 
 pub record Gathers (n : ℕ) (f h : List ℕ) (count : ℕ) (f′ : List ℕ) : Type 0 where
-  pub gathered : Gathered n (map linkIn (take count h)) f′
+  pub gathered : Gathered n (heldLinks count h) f′
   pub kept : Kept n f f′
+
+-- The pointers can be shortened where pieces stand gathered.
+pub record Shortable (n : ℕ) (f : List ℕ) : Type 0 where
+  pub held : List Link
+  pub gathered : Gathered n held f
+
+-- Whatever links stand gathered, their pieces are laid as they are told.
+abbrev pub Shortens : (n : ℕ) (f f′ : List ℕ) → Type 0
+Shortens n f f′ = (held : List Link) → Gathered n held f → f′ ≡ withPieces n held f
+
+-- A pointer goes on to where the fragment points to which it leads; to that fragment where it is the smallest member.
+unfoldable pub shorter : ℕ → ℕ → ℕ
+shorter word up = pick (eqb up 0) word up
+
+-- So for the fragment v, which has then neither size nor links.
+unfoldable pub shortAt : ℕ → ℕ → List ℕ → List ℕ
+shortAt n v f = set (set (set f (4 * n + v) (shorter (getD f (4 * n + v) 0) (getD f (4 * n + (getD f (4 * n + v) 0 - 1)) 0))) (5 * n + v) 0) (6 * n + v) 0
+
+pub record Leading (n v : ℕ) (f : List ℕ) : Type 0 where
+  pub few-fragments : n ≤ fragmentsMost
+  pub long : words * n ≤ length f
+  pub in-range : v < n
+  pub some : 0 < getD f (4 * n + v) 0
+  pub down : getD f (4 * n + v) 0 ≤ v

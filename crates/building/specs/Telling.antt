@@ -12,24 +12,16 @@ use Rattle.rules.specs.Links.{Link}
 use Rattle.rules.specs.Tables.{Tables, noteOf}
 use Rattle.rules.specs.Building.{pieces, better, hold, holdLink, buildLinks}
 use Rattle.rules.specs.Laws.Facts.{Underway, Loose}
-use Rattle.state.specs.Layout.{words, stored, linkIn, wordOf, tablesIn, forestIn}
+use Rattle.state.specs.Layout.{words, stored, wordOf, forestIn, heldLink}
 use Rattle.state.specs.Test.{allZero}
 use Rattle.state.specs.Call.{fragmentsMost, roomMost}
-use Rattle.state.specs.declared.State.{State}
-use Rattle.state.specs.declared.Stage.the-variants.{Building}
-use Rattle.building.specs.Pieces.{Ends, Gathered, Joinable, Joins}
+use Rattle.building.specs.Gathered.{heldTables}
+use Rattle.building.specs.Pieces.{Ends, Gathered, Joinable, Joins, Gathers}
 use Rattle.building.specs.Noted.{Noted}
-
--- The tables of n fragments of which so many links are held, in Building.
-abbrev pub holds : ℕ → ℕ → State
-holds n count = record { n = n; k = 0; stage = Building; passes = 0; entries = 0; held = count; crossed = false }
-
-abbrev pub heldTables : ℕ → ℕ → List ℕ → List ℕ → Tables
-heldTables n count f h = tablesIn (holds n count) f h
 
 -- The held links stand with the smaller end first.
 abbrev pub Rising : ℕ → List ℕ → Type 0
-Rising count h = (i : ℕ) → i < count → linkIn (getD h i 0) .0 < linkIn (getD h i 0) .1
+Rising count h = (i : ℕ) → i < count → heldLink h i .0 < heldLink h i .1
 
 -- Between two links of a block: the tables of a pass that is underway, their pieces and the links noted in scratch.
 pub record Telling (n k count : ℕ) (f h : List ℕ) : Type 0 where
@@ -144,3 +136,14 @@ pub record Settles (n k count : ℕ) (f h : List ℕ) (count′ : ℕ) (f′ h�
 abbrev pub Told : (n k count entries : ℕ) (block f h : List ℕ) (count′ : ℕ) (f′ h′ : List ℕ) → Type 0
 Told n k count entries block f h count′ f′ h′ =
     (links : List Link) → linksAt n entries block 0 ≡ gives links → Settles n k count f h count′ f′ h′ (buildLinks n k (heldTables n count f h) links)
+
+-- The pieces of the held links stand in scratch, over such tables.
+pub record MayTell (n k count : ℕ) (g h : List ℕ) : Type 0 where
+  pub found : List ℕ
+  pub tellable : Tellable n k count found h
+  pub gathers : Gathers n found h count g
+
+-- The links of a block are told, whatever tables those were.
+abbrev pub TellsAll : (n k count entries : ℕ) (block g h : List ℕ) (count′ : ℕ) (f′ h′ : List ℕ) → Type 0
+TellsAll n k count entries block g h count′ f′ h′ =
+    (f : List ℕ) → Tellable n k count f h → Gathers n f h count g → Told n k count entries block f h count′ f′ h′

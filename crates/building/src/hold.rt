@@ -1,21 +1,25 @@
 // B3: a link between two unplaced fragments is held, or marks its piece lost.
 ghost use mathlib.Core.Path.{_≡_};
 ghost use Rattle.rules.specs.Building.{holdLink};
-ghost use Rattle.building.specs.Telling.{heldTables, Leaves, Sized, roomAt, Holdable, Holds, Between, Within, MayHold};
+ghost use Rattle.building.specs.Gathered.{heldTables};
+ghost use Rattle.building.specs.Telling.{Leaves, Sized, roomAt, Holdable, Holds, Between, Within, MayHold};
 use crate::index::word_of;
 use crate::noted::is_held;
 use crate::noted::note_held;
+use crate::pieces::LINKS;
+use crate::pieces::SIZE;
 use crate::pieces::find;
 use crate::pieces::join;
-use crate::tables::wide;
+use state::wide;
+use tables::MARK;
 
 // Room for one more link in the piece whose smallest member is p.
 fn has_room(frag: &[u32], n: usize, k: usize, p: usize) -> bool
     requires { ⌜ Sized n k p (now frag) ⌝ }
     ensures { λ r. ⌜ r ≡ roomAt n k p (now (frag .entry)) ⌝ }
 {
-    let links = wide(frag[6 * n + p]);
-    let size = wide(frag[5 * n + p]) + 1;
+    let links = wide(frag[LINKS * n + p]);
+    let size = wide(frag[SIZE * n + p]) + 1;
     links < k * size - 1
 }
 
@@ -38,7 +42,7 @@ fn may_hold_inside(
 {
     let room = has_room(frag, n, k, p);
     // Full and lost: held or not, the link changes nothing.
-    if !room && frag[3 * n + p] == 1 {
+    if !room && frag[MARK * n + p] == 1 {
         return false;
     }
     if is_held(frag, held, n, count, a, b, told, block, at) {
@@ -47,7 +51,7 @@ fn may_hold_inside(
     if room {
         return true;
     }
-    frag[3 * n + p] = 1;
+    frag[MARK * n + p] = 1;
     false
 }
 

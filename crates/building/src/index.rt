@@ -3,7 +3,7 @@ ghost use mathlib.Core.Path.{_≡_};
 ghost use Prim.Native.Nat.{_<_, _≤_, min, max};
 ghost use Rattle.state.specs.Layout.{radix, wordOf};
 ghost use Rattle.building.specs.Index.{slotsMost, homeOf, Open, Place};
-use crate::words::RADIX;
+use tables::RADIX;
 
 // Added to a word noted whose link is held.
 pub(crate) const FLAG: u32 = 1073741824;

@@ -1,23 +1,14 @@
-// Building: take and close, which make the forest, and the test of the tables in that stage.
-mod arrange;
-mod choose;
-mod closing;
-mod head;
+// Building: the test of the tables and the pieces of the held links, with which take and close begin, and take.
+mod gathering;
 mod hold;
 mod index;
 mod links;
-mod members;
 mod noted;
-mod path;
 mod pieces;
-mod sort;
-mod stage;
-mod tables;
 mod taking;
 mod tell;
 mod test;
-mod walk;
-mod words;
 
-pub use closing::close;
+pub use gathering::gathered;
+pub use pieces::POINTER;
 pub use taking::take;

@@ -1,23 +1,31 @@
 // The test of the held links: their ends, none twice, and no piece over its quota.
 ghost use Prim.Native.Nat.{_-_, _<_, _≤_};
-ghost use mathlib.Core.List.{map};
 ghost use mathlib.Core.Path.{_≡_};
-ghost use lib.ListN.{length, take, drop};
+ghost use lib.ListN.{length, drop};
+ghost use Rattle.base.specs.Pick.{pick};
 ghost use Rattle.rules.specs.Links.{between, linked};
-ghost use Rattle.state.specs.Layout.{forestIn, linkIn};
+ghost use Rattle.state.specs.Layout.{forestIn, heldLinks};
 ghost use Rattle.state.specs.Test.{endsFit, quotaFits};
+ghost use Rattle.state.specs.Call.{roomMost};
 ghost use Rattle.state.specs.Laws.Tests.{Room};
+ghost use Rattle.building.specs.Gathered.{withPieces};
 ghost use Rattle.building.specs.Pieces.{Pointing};
 ghost use Rattle.building.specs.Index.{Open, Indexed};
 ghost use Rattle.building.specs.Batches.{classesMost, classOf, Batchable, Batches, Recalls, Missable, Misses, Comparable, Sifts, Compares};
 ghost use Rattle.building.specs.Check.{linkFits, pieceFits, Tells, linksFit, Lookable, Readable};
 use crate::index::look;
+use crate::noted::NOTED;
+use crate::pieces::LINKS;
+use crate::pieces::POINTER;
+use crate::pieces::SIZE;
 use crate::pieces::gather;
-use crate::tables::rank_at;
-use crate::tables::wide;
-use crate::words::high_end;
-use crate::words::low_end;
-use crate::words::wipe;
+use crate::pieces::shorten;
+use state::State;
+use state::clear;
+use state::wide;
+use tables::high_end;
+use tables::low_end;
+use tables::rank_at;
 
 // 'held links join different unplaced fragments'
 fn link_fits(frag: &[u32], n: usize, a: usize, b: usize) -> bool
@@ -38,7 +46,7 @@ fn link_fits(frag: &[u32], n: usize, a: usize, b: usize) -> bool
 
 fn ends_fit(frag: &[u32], held: &[u32], n: usize, count: usize) -> bool
     requires { ⌜ Room n (now frag) × (count ≤ length (now held)) ⌝ }
-    ensures { λ r. ⌜ r ≡ endsFit n (forestIn n (now (frag .entry))) (map linkIn (take count (now (held .entry)))) ⌝ }
+    ensures { λ r. ⌜ r ≡ endsFit n (forestIn n (now (frag .entry))) (heldLinks count (now (held .entry))) ⌝ }
 {
     let mut i = 0;
     while i < count {
@@ -68,7 +76,7 @@ fn is_same(c: usize, d: usize, a: usize, b: usize) -> bool
 // The link between a and b is among the held links from one place to another.
 pub(crate) fn is_among(held: &[u32], from: usize, to: usize, a: usize, b: usize) -> bool
     requires { ⌜ (from ≤ to) × (to ≤ length (now held)) ⌝ }
-    ensures { λ r. ⌜ r ≡ linked (map linkIn (take (to - from) (drop from (now (held .entry))))) a b ⌝ }
+    ensures { λ r. ⌜ r ≡ linked (heldLinks (to - from) (drop from (now (held .entry)))) a b ⌝ }
 {
     let mut i = from;
     while i < to {
@@ -186,7 +194,7 @@ fn class_differs(
         if !none_noted(frag, held, 4 * n, 12 * n, end, count, c, classes) {
             return false;
         }
-        wipe(frag, 4 * n, 16 * n);
+        clear(frag, POINTER * n, State::WORDS * n);
         base = end;
     }
     true
@@ -213,15 +221,15 @@ fn piece_fits(frag: &[u32], n: usize, k: usize, p: usize) -> bool
     requires { ⌜ Readable n k p (now frag) ⌝ }
     ensures { λ r. ⌜ Tells n (now (frag .entry)) r (λ held. pieceFits n k held p) ⌝ }
 {
-    if frag[4 * n + p] != 0 {
+    if frag[POINTER * n + p] != 0 {
         return true;
     }
-    let size = wide(frag[5 * n + p]) + 1;
-    wide(frag[6 * n + p]) <= k * size - 1
+    let size = wide(frag[SIZE * n + p]) + 1;
+    wide(frag[LINKS * n + p]) <= k * size - 1
 }
 
 fn quota_fits(frag: &[u32], n: usize, k: usize) -> bool
-    requires { ⌜ Pointing n (now frag) × (0 < k) × (k ≤ 64) ⌝ }
+    requires { ⌜ Pointing n (now frag) × (0 < k) × (k ≤ roomMost) ⌝ }
     ensures { λ r. ⌜ Tells n (now (frag .entry)) r (quotaFits n k) ⌝ }
 {
     let mut p = 0;
@@ -234,19 +242,23 @@ fn quota_fits(frag: &[u32], n: usize, k: usize) -> bool
     true
 }
 
+// The test, and where the links pass it their pieces in scratch.
 pub(crate) fn links_fit(frag: &mut [u32], held: &[u32], n: usize, k: usize, count: usize) -> bool
     requires { ⌜ Lookable n k count (now frag) (now held) ⌝ }
-    ensures { λ r. ⌜ (r ≡ linksFit n k (forestIn n (now (frag .entry))) (map linkIn (take count (now (held .entry))))) × (now (frag .exit) ≡ now (frag .entry)) ⌝ }
+    ensures { λ r. ⌜ (r ≡ linksFit n k (forestIn n (now (frag .entry))) (heldLinks count (now (held .entry)))) × (now (frag .exit) ≡ pick r (withPieces n (heldLinks count (now (held .entry))) (now (frag .entry))) (now (frag .entry))) ⌝ }
 {
     if !ends_fit(frag, held, n, count) {
         return false;
     }
     if !none_twice(frag, held, n, count) {
-        wipe(frag, 4 * n, 16 * n);
+        clear(frag, POINTER * n, State::WORDS * n);
         return false;
     }
     gather(frag, held, n, count);
-    let fits = quota_fits(frag, n, k);
-    wipe(frag, 4 * n, 16 * n);
-    fits
+    if !quota_fits(frag, n, k) {
+        clear(frag, POINTER * n, NOTED * n);
+        return false;
+    }
+    shorten(frag, n);
+    true
 }

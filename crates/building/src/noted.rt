@@ -1,16 +1,19 @@
 // Links noted in sections 7 to 15 while a block is told, each with whether it is held: a link told again is not looked for in the held table.
 ghost use Prim.Native.Nat.{_*_, _≤_, min, max};
-ghost use mathlib.Core.List.{map};
-ghost use lib.ListN.{length, take};
-ghost use Rattle.state.specs.Layout.{linkIn};
+ghost use lib.ListN.{length};
+ghost use Rattle.state.specs.Layout.{linkIn, heldLinks};
 ghost use Rattle.building.specs.Pieces.{Ends};
 ghost use Rattle.building.specs.Noted.{Noted, Apart, Askable, Answers, Flags, Learnable, Flaggable, Addable, Stands, Fresh, Anew, Matching, Unnoted};
 use crate::index::FLAG;
 use crate::index::look;
 use crate::index::word_of;
 use crate::links::is_among;
-use crate::words::wipe;
 use lists::Link;
+use state::State;
+use state::clear;
+
+// The first section of the index.
+pub(crate) const NOTED: usize = 7;
 
 // A word as it stands, 0 where it is not noted.
 fn standing(frag: &[u32], n: usize, w: u32) -> u32
@@ -18,11 +21,11 @@ fn standing(frag: &[u32], n: usize, w: u32) -> u32
     ensures { λ r. ⌜ Stands n w (now (frag .entry)) r ⌝ }
 {
     let size = 9 * n - 1;
-    let i = look(frag, 7 * n, size, w);
+    let i = look(frag, NOTED * n, size, w);
     if i == size {
         return 0;
     }
-    frag[7 * n + i]
+    frag[NOTED * n + i]
 }
 
 // A held link that is not noted, whose way ends in the empty slot i. The word behind the slots is 0, or one more than how many links are noted
@@ -31,7 +34,7 @@ fn note_more(frag: &mut [u32], n: usize, w: u32, i: usize)
     requires { ⌜ Addable n w i (now frag) ⌝ }
     ensures { λ r. ⌜ Flags n (linkIn w) (now (frag .entry)) (now (frag .exit)) ⌝ }
 {
-    let behind = 7 * n + (9 * n - 1);
+    let behind = NOTED * n + (9 * n - 1);
     let whole = frag[behind];
     if whole == 0 {
         return;
@@ -39,7 +42,7 @@ fn note_more(frag: &mut [u32], n: usize, w: u32, i: usize)
     if 4 * n < whole as usize {
         frag[behind] = 0;
     } else {
-        frag[7 * n + i] = w + FLAG;
+        frag[NOTED * n + i] = w + FLAG;
         frag[behind] = whole + 1;
     }
 }
@@ -50,19 +53,19 @@ fn set_flag(frag: &mut [u32], n: usize, w: u32)
     ensures { λ r. ⌜ Flags n (linkIn w) (now (frag .entry)) (now (frag .exit)) ⌝ }
 {
     let size = 9 * n - 1;
-    let i = look(frag, 7 * n, size, w);
+    let i = look(frag, NOTED * n, size, w);
     if i == size {
         // No slot is left: not every held link is noted.
-        frag[7 * n + size] = 0;
+        frag[NOTED * n + size] = 0;
         return;
     }
-    let x = frag[7 * n + i];
+    let x = frag[NOTED * n + i];
     if x == 0 {
         note_more(frag, n, w, i);
         return;
     }
     if x < FLAG {
-        frag[7 * n + i] = x + FLAG;
+        frag[NOTED * n + i] = x + FLAG;
     }
 }
 
@@ -77,7 +80,7 @@ pub(crate) fn note_held(frag: &mut [u32], n: usize, a: usize, b: usize)
 // The first `count` held links are told to the links noted.
 fn set_flags(frag: &mut [u32], held: &[u32], n: usize, count: usize)
     requires { ⌜ Matching n count (now frag) (now held) ⌝ }
-    ensures { λ r. ⌜ Noted n (map linkIn (take count (now (held .entry)))) (now (frag .exit)) × Apart n (now (frag .entry)) (now (frag .exit)) ⌝ }
+    ensures { λ r. ⌜ Noted n (heldLinks count (now (held .entry))) (now (frag .exit)) × Apart n (now (frag .entry)) (now (frag .exit)) ⌝ }
 {
     let mut i = 0;
     while i < count {
@@ -89,10 +92,10 @@ fn set_flags(frag: &mut [u32], held: &[u32], n: usize, count: usize)
 // Where the held links are few, every one of them is noted: a link that is not noted then is not held.
 pub(crate) fn note_all(frag: &mut [u32], held: &[u32], n: usize, count: usize)
     requires { ⌜ Unnoted n count (now frag) (now held) ⌝ }
-    ensures { λ r. ⌜ Noted n (map linkIn (take count (now (held .entry)))) (now (frag .exit)) × Apart n (now (frag .entry)) (now (frag .exit)) ⌝ }
+    ensures { λ r. ⌜ Noted n (heldLinks count (now (held .entry))) (now (frag .exit)) × Apart n (now (frag .entry)) (now (frag .exit)) ⌝ }
 {
     if count < 4 * n {
-        frag[7 * n + (9 * n - 1)] = 1;
+        frag[NOTED * n + (9 * n - 1)] = 1;
         set_flags(frag, held, n, count);
     }
 }
@@ -110,14 +113,14 @@ fn note_one(frag: &mut [u32], n: usize, a: usize, b: usize) -> usize
     }
     let w = word_of(a, b);
     let size = 9 * n - 1;
-    let i = look(frag, 7 * n, size, w);
+    let i = look(frag, NOTED * n, size, w);
     if i == size {
         return 4 * n;
     }
-    if frag[7 * n + i] != 0 {
+    if frag[NOTED * n + i] != 0 {
         return 0;
     }
-    frag[7 * n + i] = w;
+    frag[NOTED * n + i] = w;
     1
 }
 
@@ -174,9 +177,9 @@ fn note_anew(
     at: usize,
 )
     requires { ⌜ Anew n count (now frag) (now held) ⌝ }
-    ensures { λ r. ⌜ Noted n (map linkIn (take count (now (held .entry)))) (now (frag .exit)) × Apart n (now (frag .entry)) (now (frag .exit)) ⌝ }
+    ensures { λ r. ⌜ Noted n (heldLinks count (now (held .entry))) (now (frag .exit)) × Apart n (now (frag .entry)) (now (frag .exit)) ⌝ }
 {
-    wipe(frag, 7 * n, 16 * n);
+    clear(frag, NOTED * n, State::WORDS * n);
     let end = block_end(block.len(), at, 2 * count + 1024);
     note_links(frag, n, told, block, at, end);
     set_flags(frag, held, n, count);
@@ -201,7 +204,7 @@ pub(crate) fn is_held(
     if x != 0 {
         return FLAG <= x;
     }
-    if frag[7 * n + (9 * n - 1)] != 0 {
+    if frag[NOTED * n + (9 * n - 1)] != 0 {
         return false;
     }
     let answer = is_among(held, 0, count, a, b);

@@ -2,15 +2,18 @@
 ghost use mathlib.Core.Path.{_≡_};
 ghost use Rattle.rules.specs.Building.{buildLink};
 ghost use Rattle.building.specs.Pieces.{Ends};
-ghost use Rattle.building.specs.Telling.{heldTables, Leaves, Telling, Notable, noting, Rest, Tells, Tellable, Told};
-use crate::choose::better_note;
+ghost use Rattle.building.specs.Gathered.{heldTables};
+ghost use Rattle.building.specs.Telling.{Leaves, Telling, Notable, noting, Rest, Tells, MayTell, TellsAll};
 use crate::hold::hold_link;
 use crate::noted::note_all;
-use crate::pieces::gather;
-use crate::tables::note_at;
-use crate::tables::rank_at;
-use crate::words::wipe;
+use crate::pieces::POINTER;
 use lists::Link;
+use state::State;
+use state::clear;
+use tables::NOTE;
+use tables::better_note;
+use tables::note_at;
+use tables::rank_at;
 
 // A link from unplaced u to placed p: the better note stays.
 fn note_link(frag: &mut [u32], n: usize, u: usize, p: usize)
@@ -19,7 +22,7 @@ fn note_link(frag: &mut [u32], n: usize, u: usize, p: usize)
 {
     let old = note_at(frag, n, u);
     let note = better_note(frag, n, old, p + 1);
-    frag[2 * n + u] = note as u32;
+    frag[NOTE * n + u] = note as u32;
 }
 
 // One link, which begins at byte `at` of the block, by which of its ends are placed. Returns how many links are held now.
@@ -85,7 +88,7 @@ fn tell_links(
     count
 }
 
-// The links of a block that was scanned, with their pieces in scratch meanwhile. Returns how many links are held now.
+// The links of a block that was scanned. The pieces stand in scratch, which is 0 afterwards. Returns how many links are held now.
 pub(crate) fn tell_block(
     frag: &mut [u32],
     held: &mut [u32],
@@ -95,12 +98,11 @@ pub(crate) fn tell_block(
     entries: u32,
     block: &[u8],
 ) -> usize
-    requires { ⌜ Tellable n k count (now frag) (now held) × Rest n entries (now block) 0 ⌝ }
-    ensures { λ r. ⌜ Told n k count entries (now (block .entry)) (now (frag .entry)) (now (held .entry)) r (now (frag .exit)) (now (held .exit)) ⌝ }
+    requires { ⌜ MayTell n k count (now frag) (now held) × Rest n entries (now block) 0 ⌝ }
+    ensures { λ r. ⌜ TellsAll n k count entries (now (block .entry)) (now (frag .entry)) (now (held .entry)) r (now (frag .exit)) (now (held .exit)) ⌝ }
 {
-    gather(frag, held, n, count);
     note_all(frag, held, n, count);
     let now_held = tell_links(frag, held, n, k, count, entries, block);
-    wipe(frag, 4 * n, 16 * n);
+    clear(frag, POINTER * n, State::WORDS * n);
     now_held
 }

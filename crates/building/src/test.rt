@@ -3,19 +3,21 @@ ghost use Prim.Native.Nat.{_-_, _<_, _≤_};
 ghost use mathlib.Core.Bool.{true};
 ghost use mathlib.Core.Path.{_≡_};
 ghost use lib.ListN.{length, take, drop};
+ghost use Rattle.base.specs.Pick.{pick};
 ghost use Rattle.rules.specs.Search.{count, every};
 ghost use Rattle.rules.specs.Tables.{placed};
-ghost use Rattle.state.specs.Layout.{forestIn};
+ghost use Rattle.state.specs.Layout.{forestIn, heldLinks};
 ghost use Rattle.state.specs.Test.{isBuilding, allZero, standsAt, clearAt, sound};
 ghost use Rattle.state.specs.Laws.Bounds.{Bounds};
 ghost use Rattle.state.specs.Laws.Tests.{Room};
+ghost use Rattle.building.specs.Gathered.{withPieces};
 ghost use Rattle.building.specs.Check.{waitsAt, fragmentFits, stateFits, restFits};
 use crate::links::links_fit;
-use crate::tables::mark_at;
-use crate::tables::note_at;
-use crate::tables::parent_at;
-use crate::tables::rank_at;
 use state::State;
+use tables::mark_at;
+use tables::note_at;
+use tables::parent_at;
+use tables::rank_at;
 
 // 'a placed fragment is a root of level 0, or has a placed parent of level one less'
 fn stands(frag: &[u32], n: usize, v: usize) -> bool
@@ -168,9 +170,10 @@ fn rest_fits(s: State, frag: &[u32], held: &[u32]) -> bool
     zeros(frag, 4 * n, State::WORDS * n)
 }
 
+// The pieces of the held links are in scratch where the tables pass.
 pub(crate) fn test(s: State, frag: &mut [u32], held: &[u32]) -> bool
     requires { ⌜ Bounds (s .n) (s .k) (length (now frag)) (length (now held)) × (isBuilding (s .stage) ≡ true) ⌝ }
-    ensures { λ r. ⌜ (r ≡ sound s (now (frag .entry)) (now (held .entry))) × (now (frag .exit) ≡ now (frag .entry)) ⌝ }
+    ensures { λ r. ⌜ (r ≡ sound s (now (frag .entry)) (now (held .entry))) × (now (frag .exit) ≡ pick r (withPieces (s .n) (heldLinks (s .held) (now (held .entry))) (now (frag .entry))) (now (frag .entry))) ⌝ }
 {
     if !rest_fits(s, frag, held) {
         return false;

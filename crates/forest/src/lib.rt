@@ -49,7 +49,7 @@ pub fn close(s: State, frag: &mut [u32], held: &mut [u32]) -> Closed
 {
     let stage = s.stage;
     if in_building(stage) {
-        building::close(s, frag, held)
+        closing::close(s, frag, held)
     } else {
         reading::close(s, frag, held)
     }

@@ -3,27 +3,28 @@
 use Prim.Native.Nat.{ℕ, zero, suc, _+_, _-_, _*_, _/_, _%_, _≤_, _<_}
 use mathlib.Core.Path.{_≡_, refl, sym, ap, _∙_}
 use mathlib.Core.Bool.{Bool, true, false, _&&_, not}
-use mathlib.Core.List.{List, map}
+use mathlib.Core.List.{List}
 use mathlib.Core.Logic.{_≢_, inl, inr}
 use native.Mathlib.Omega.{arith}
 use native.Mathlib.Decide.{ℕ-discrete, decLt}
 use native.Mathlib.Nat.{mul-le-mul-right, div-le-self}
 use borrow.Author.Tests.{eq-eqb, ne-eqb}
 use lib.Dec.{T, eqb, not-T, T-not, ltb, ltb→lt}
-use lib.ListN.{length, getD, set, take}
+use lib.ListN.{length, getD, set}
 use lib.Seq.{getD-set-same, getD-set-other}
 use Rattle.base.specs.Truth.{and-intro, and-l, and-r, true-T, false-T, T-true, T-false}
 use Rattle.rules.specs.Links.{between, linked}
 use Rattle.rules.specs.Laws.Links.{between-elim, between-here, linked-nil, linked-cases, linked-head, linked-tail}
 use Rattle.rules.specs.Tables.{Tables, placed}
-use Rattle.state.specs.Layout.{words, stored, linkIn, forestIn}
+use Rattle.state.specs.Layout.{wiped, words, stored, linkIn, forestIn, heldLinks, heldLink}
 use Rattle.state.specs.Test.{endsFit, noneTwice}
+use Rattle.state.specs.Laws.Clear.{wiped-back}
 use Rattle.state.specs.Laws.Lists.{drop-take}
-use Rattle.building.specs.Pieces.{wiped, Gatherable}
+use Rattle.building.specs.Pieces.{Gatherable}
 use Rattle.building.specs.Check.{Lookable}
 use Rattle.building.specs.Index.{flag, Place, Indexed, In, Outside}
 use Rattle.building.specs.Batches.{classOf, classesMost, Differ, Twice, Batchable, Batch, Batches, Recalls, Misses, Sorted, Comparable, Sifts, Compares}
-use Rattle.building.specs.Laws.Scratch.{Blank, blank-at, wiped-back}
+use Rattle.building.specs.Laws.Scratch.{Blank, blank-at}
 use Rattle.building.specs.Laws.Check.{left, left-whole, left-none, left-next, links-gatherable}
 use Rattle.building.specs.Laws.Index.{high-part, home-in, not-noted, is-noted, indexed-none, set-indexed, outside-none}
 
@@ -168,13 +169,13 @@ one-word v w a b t = elim (between-elim _ _ _ _ t) [
 
 -- The links that are left, word by word.
 module _ (h : List ℕ) (to : ℕ) (b : to ≤ length h) where
-  left-at : (k j q : ℕ) → q ≡ j + k → q < to → T (linked (left h to j) (linkIn (getD h q 0) .0) (linkIn (getD h q 0) .1))
+  left-at : (k j q : ℕ) → q ≡ j + k → q < to → T (linked (left h to j) (heldLink h q .0) (heldLink h q .1))
   left-at zero j q e l =
       let z : q ≡ j = omega arith in
       rw (z, left-next h to j (omega arith) b _ _ refl refl) (linked-head _ (left h to (j + 1)) _ _ (between-here _ _))
   left-at (suc k) j q e l = rw (left-next h to j (omega arith) b _ _ refl refl) (linked-tail _ (left h to (j + 1)) _ _ (left-at k (j + 1) q (omega arith) l))
 
-  left-from : (k j u v : ℕ) → to ≡ j + k → T (linked (left h to j) u v) → (q : ℕ) × (j ≤ q) × (q < to) × T (between (linkIn (getD h q 0)) u v)
+  left-from : (k j u v : ℕ) → to ≡ j + k → T (linked (left h to j) u v) → (q : ℕ) × (j ≤ q) × (q < to) × T (between (heldLink h q) u v)
   left-from zero j u v e t = absurd (linked-nil u v (rw (left-none h to j (omega arith)) at t))
   left-from (suc k) j u v e t = elim (linked-cases _ (left h to (j + 1)) u v (rw (left-next h to j (omega arith) b _ _ refl refl) at t)) [
     | inl s ↦ (j, omega arith, omega arith, s)
@@ -186,8 +187,8 @@ module _ (h : List ℕ) (to : ℕ) (b : to ≤ length h) where
   none-left n S D zero j e = rw (left-none h to j (omega arith)) tt
   none-left n S D (suc k) j e =
       rw (left-next h to j (omega arith) b _ _ refl refl)
-      (and-intro (not (linked (left h to (j + 1)) (linkIn (getD h j 0) .0) (linkIn (getD h j 0) .1))) _
-      (not-T (linked (left h to (j + 1)) (linkIn (getD h j 0) .0) (linkIn (getD h j 0) .1)) (λ t.
+      (and-intro (not (linked (left h to (j + 1)) (heldLink h j .0) (heldLink h j .1))) _
+      (not-T (linked (left h to (j + 1)) (heldLink h j .0) (heldLink h j .1)) (λ t.
       let (q, a, l, s) = left-from k (j + 1) _ _ (omega arith) t in
       D j q (omega arith) l (sym (one-word (getD h q 0) (getD h j 0) (S q l .0) (S j (omega arith) .0) s))))
       (none-left n S D k (j + 1) (omega arith)))
@@ -197,21 +198,21 @@ module _ (h : List ℕ) (to : ℕ) (b : to ≤ length h) where
   some-left t zero j e s =
       let z : t .one ≡ j = omega arith in
       let same : getD h j 0 ≡ getD h (t .two) 0 = ap (λ i. getD h i 0) (sym z) ∙ t .same in
-      let L = linked (left h to (j + 1)) (linkIn (getD h j 0) .0) (linkIn (getD h j 0) .1) in
+      let L = linked (left h to (j + 1)) (heldLink h j .0) (heldLink h j .1) in
       T-not L (and-l (not L) (noneTwice (left h to (j + 1))) (rw (left-next h to j (omega (arith, t .less, t .in-range)) b _ _ refl refl) at s))
       (rw same (left-at (t .two - (j + 1)) (j + 1) (t .two) (omega (arith, t .less)) (t .in-range)))
   some-left t (suc k) j e s =
-      let L = linked (left h to (j + 1)) (linkIn (getD h j 0) .0) (linkIn (getD h j 0) .1) in
+      let L = linked (left h to (j + 1)) (heldLink h j .0) (heldLink h j .1) in
       some-left t k (j + 1) (omega arith) (and-r (not L) (noneTwice (left h to (j + 1))) (rw (left-next h to j (omega (arith, t .less, t .in-range)) b _ _ refl refl) at s))
 
 -- What the classes come to.
 module _ {n count : ℕ} {f h : List ℕ} (C : Comparable n count f h) where
-  pub none-same : ((p q : ℕ) → p < q → q < count → getD h p 0 ≢ getD h q 0) → true ≡ noneTwice (map linkIn (take count h))
+  pub none-same : ((p q : ℕ) → p < q → q < count → getD h p 0 ≢ getD h q 0) → true ≡ noneTwice (heldLinks count h)
   none-same D =
       let t = none-left h count (C .there) n (C .inside) D count 0 (omega arith) in
       sym (T-true _ (rw (left-whole h count) at t))
 
-  pub some-same : Twice h count → false ≡ noneTwice (map linkIn (take count h))
+  pub some-same : Twice h count → false ≡ noneTwice (heldLinks count h)
   some-same t = sym (T-false _ (λ s. some-left h count (C .there) t (t .one) 0 (omega arith) (rw (left-whole h count) s)))
 
   pub few-classes : (m : ℕ) → count / m + 1 ≤ classesMost
@@ -235,7 +236,7 @@ pub outside-back : (n : ℕ) (f g : List ℕ) → words * n ≤ length f → Bla
 outside-back n f g l z o =
     let e : words * n ≡ stored * n + (words - stored) * n = omega arith in
     let p : words * n ≡ stored * n + 12 * n = omega arith in
-    wiped-back (stored * n) (words * n) f g (omega arith) l (rw (e, drop-take (stored * n) ((words - stored) * n) f) z) (o .before) (rw p (o .past))
+    wiped-back (stored * n) (words * n) f g (omega arith) l (o .same-long) (rw (e, drop-take (stored * n) ((words - stored) * n) f) z) (o .before) (rw p (o .past))
 
 -- Between two batches of class c: its words before `base` stand nowhere else, and the table is as it was found.
 pub record Compared (n count base c classes : ℕ) (f₀ f h : List ℕ) : Type 0 where
@@ -309,27 +310,27 @@ module _ {n count c classes : ℕ} {f₀ f h : List ℕ} (K : Sifted n count c c
 
 -- Where the ends fit the links are told with the smaller end first.
 module _ (n : ℕ) (t : Tables) (h : List ℕ) (count : ℕ) (b : count ≤ length h) where
-  ends-first : (j : ℕ) → j < count → T (endsFit n t (left h count j)) → ((linkIn (getD h j 0) .0 < linkIn (getD h j 0) .1) × (linkIn (getD h j 0) .1 < n)) × T (endsFit n t (left h count (j + 1)))
+  ends-first : (j : ℕ) → j < count → T (endsFit n t (left h count j)) → ((heldLink h j .0 < heldLink h j .1) × (heldLink h j .1 < n)) × T (endsFit n t (left h count (j + 1)))
   unfolding endsFit
   ends-first j l s =
-      let u = linkIn (getD h j 0) .0 in
-      let v = linkIn (getD h j 0) .1 in
+      let u = heldLink h j .0 in
+      let v = heldLink h j .1 in
       let more = ltb v n && (not (placed t u) && not (placed t v)) in
       let y : T ((ltb u v && more) && endsFit n t (left h count (j + 1))) = rw (left-next h count j l b _ _ refl refl) at s in
       let x = and-l (ltb u v && more) _ y in
       ((ltb→lt u v (and-l (ltb u v) more x), ltb→lt v n (and-l (ltb v n) _ (and-r (ltb u v) more x))), and-r (ltb u v && more) _ y)
 
-  sorted-from : (k j i : ℕ) → i ≡ j + k → i < count → T (endsFit n t (left h count j)) → (linkIn (getD h i 0) .0 < linkIn (getD h i 0) .1) × (linkIn (getD h i 0) .1 < n)
+  sorted-from : (k j i : ℕ) → i ≡ j + k → i < count → T (endsFit n t (left h count j)) → (heldLink h i .0 < heldLink h i .1) × (heldLink h i .1 < n)
   sorted-from zero j i e l s =
       let z : i ≡ j = omega arith in
       let d = ends-first j (omega arith) s in
       rw z (d .0)
   sorted-from (suc k) j i e l s = sorted-from k (j + 1) i (omega arith) l (ends-first j (omega arith) s .1)
 
-  pub ends-sorted : true ≡ endsFit n t (map linkIn (take count h)) → Sorted n count h
+  pub ends-sorted : true ≡ endsFit n t (heldLinks count h) → Sorted n count h
   ends-sorted e i l = sorted-from i 0 i (omega arith) l (true-T _ (ap (endsFit n t) (left-whole h count) ∙ sym e))
 
-module _ {n k count : ℕ} {f h : List ℕ} (L : Lookable n k count f h) (e : true ≡ endsFit n (forestIn n f) (map linkIn (take count h))) where
+module _ {n k count : ℕ} {f h : List ℕ} (L : Lookable n k count f h) (e : true ≡ endsFit n (forestIn n f) (heldLinks count h)) where
   pub links-comparable : Comparable n count f h
   links-comparable = record {
     few-fragments = L .few-fragments;

@@ -3,13 +3,13 @@
 use Prim.Native.Nat.{ℕ, suc, pred, _+_, _-_, _*_, _≤_, _<_}
 use mathlib.Core.Path.{_≡_, sym, ap, _∙_}
 use mathlib.Core.Bool.{Bool, true, false, not}
-use mathlib.Core.List.{List, [], _∷_, map}
+use mathlib.Core.List.{List, [], _∷_}
 use native.Mathlib.Omega.{arith}
 use native.Mathlib.Decide.{ℕ-discrete}
 use native.Mathlib.Nat.{mul-le-mul}
 use native.Mathlib.Numerals.{add-one}
 use lib.Dec.{eqb, leb}
-use lib.ListN.{length, getD, take, drop}
+use lib.ListN.{length, getD, drop}
 use lib.Seq.{drop-cons}
 use borrow.Author.Tests.{lt-ltb, eq-eqb, ne-eqb}
 use Rattle.base.specs.Pick.{tests}
@@ -21,7 +21,7 @@ use Rattle.rules.specs.Laws.Search.{count-zero}
 use Rattle.rules.specs.Laws.Split.{bit, count-suc}
 use Rattle.rules.specs.Building.{pieces, member, sizeOf, heldIn}
 use Rattle.rules.specs.Laws.Pieces.{label-le}
-use Rattle.state.specs.Layout.{linkIn, forestIn}
+use Rattle.state.specs.Layout.{forestIn, heldLinks, heldLink}
 use Rattle.state.specs.Test.{entriesMost, asked, standsAt, clearAt, endsFit, noneTwice, quotaFits}
 use Rattle.state.specs.Laws.Held.{ends-known}
 use Rattle.state.specs.Laws.Tests.{every-none, every-more, every-fails}
@@ -174,19 +174,19 @@ module _ (c d a b : ℕ) where
 
 -- The links that are left to look at from word i on.
 abbrev pub left : List ℕ → ℕ → ℕ → List Link
-left h to i = map linkIn (take (to - i) (drop i h))
+left h to i = heldLinks (to - i) (drop i h)
 
-pub left-whole : (h : List ℕ) (to : ℕ) → left h to 0 ≡ map linkIn (take to h)
+pub left-whole : (h : List ℕ) (to : ℕ) → left h to 0 ≡ heldLinks to h
 left-whole h to = let e : to - 0 ≡ to = omega arith in rw e
 
 pub left-none : (h : List ℕ) (to i : ℕ) → to ≤ i → left h to i ≡ []
 left-none h to i l = let e : to - i ≡ 0 = omega arith in rw e
 
-module _ (h : List ℕ) (to i : ℕ) (l : i < to) (b : to ≤ length h) (c d : ℕ) (ec : c ≡ linkIn (getD h i 0) .0) (ed : d ≡ linkIn (getD h i 0) .1) where
+module _ (h : List ℕ) (to i : ℕ) (l : i < to) (b : to ≤ length h) (c d : ℕ) (ec : c ≡ heldLink h i .0) (ed : d ≡ heldLink h i .1) where
   pub left-next : left h to i ≡ (c, d) ∷ left h to (i + 1)
   left-next =
       let q : to - i ≡ suc (to - suc i) = omega arith in
-      let pair : linkIn (getD h i 0) ≡ (c, d) = λ j. (sym ec j, sym ed j) in
+      let pair : heldLink h i ≡ (c, d) = λ j. (sym ec j, sym ed j) in
       rw (add-one, q, drop-cons h i 0 (omega arith), pair)
 
   module _ (n : ℕ) (t : Tables) where
@@ -273,12 +273,12 @@ module _ (n k : ℕ) (t : Tables) (l : List Link) where
     links-quota e b q = rw (← h1, ← e) q
 
 -- Where their ends fit they can be gathered.
-pub links-gatherable : {n k count : ℕ} {f h : List ℕ} → Lookable n k count f h → true ≡ endsFit n (forestIn n f) (map linkIn (take count h)) → Gatherable n f h count
+pub links-gatherable : {n k count : ℕ} {f h : List ℕ} → Lookable n k count f h → true ≡ endsFit n (forestIn n f) (heldLinks count h) → Gatherable n f h count
 links-gatherable {n} {k} {count} {f} {h} L e = record {
   few-fragments = L .few-fragments;
   long = L .long;
   blank = L .blank;
   few = omega (arith, L .few, mul-le-mul (L .room) (L .few-fragments));
   there = L .there;
-  inside = λ u v x. let d = ends-known n (forestIn n f) (map linkIn (take count h)) (true-T (endsFit n (forestIn n f) (map linkIn (take count h))) (sym e)) u v x in (d .0, d .1);
+  inside = λ u v x. let d = ends-known n (forestIn n f) (heldLinks count h) (true-T (endsFit n (forestIn n f) (heldLinks count h)) (sym e)) u v x in (d .0, d .1);
 }

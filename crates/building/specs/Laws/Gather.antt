@@ -3,7 +3,7 @@
 use Prim.Native.Nat.{ℕ, zero, suc, _+_, _-_, _*_, _≤_, _<_, min, max}
 use mathlib.Core.Path.{_≡_, sym, _∙_}
 use mathlib.Core.Bool.{Bool}
-use mathlib.Core.List.{List, [], _∷_, _++_, map, map-append}
+use mathlib.Core.List.{List, [], _∷_, _++_, map-append}
 use mathlib.Core.Logic.{inl, inr, _≢_}
 use native.Mathlib.Omega.{arith}
 use native.Mathlib.Decide.{ℕ-discrete, decLe}
@@ -19,7 +19,7 @@ use Rattle.rules.specs.Laws.Search.{count-le, count-two}
 use Rattle.rules.specs.Laws.Split.{bit-most, count-some, tally-nil, tally-cons, between-both}
 use Rattle.rules.specs.Laws.Pieces.{Inside, merged-larger, merged-other, merged-one, merged-inside, merged-keeps, alone-at, pieces-nil, pieces-snoc, label-in, label-own, member-intro, member-elim}
 use Rattle.rules.specs.Laws.Quota.{size-join, size-other, heldIn-join, heldIn-other, heldIn-more, heldIn-as}
-use Rattle.state.specs.Layout.{words, stored, linkIn}
+use Rattle.state.specs.Layout.{words, stored, linkIn, heldLinks, heldLink}
 use Rattle.state.specs.Call.{fragmentsMost}
 use Rattle.state.specs.Laws.Lists.{length-map}
 use Rattle.building.specs.Pieces.{heldMost, Gathered, Kept, LabelIs, Finds, Joinable, Joins, Gatherable, Gathers}
@@ -301,37 +301,37 @@ module _ {n : ℕ} {f f₁ f₂ : List ℕ} {a b : ℕ} (J : Joinable n f a b) (
     })
 
 -- The links in the held table, one more of them, and one of them.
-pub links-more : (h : List ℕ) (i : ℕ) → i < length h → map linkIn (take (i + 1) h) ≡ map linkIn (take i h) ++ (linkIn (getD h i 0) ∷ [])
+pub links-more : (h : List ℕ) (i : ℕ) → i < length h → heldLinks (i + 1) h ≡ heldLinks i h ++ (heldLink h i ∷ [])
 links-more h i l = rw (add-one, take-suc h i 0 l, map-append)
 
-pub links-length : (h : List ℕ) (i : ℕ) → i ≤ length h → length (map linkIn (take i h)) ≡ i
+pub links-length : (h : List ℕ) (i : ℕ) → i ≤ length h → length (heldLinks i h) ≡ i
 links-length h i l = length-map linkIn (take i h) ∙ simp length-take (omega arith)
 
-pub link-there : (h : List ℕ) (m i : ℕ) → i < m → m ≤ length h → T (linked (map linkIn (take m h)) (linkIn (getD h i 0) .0) (linkIn (getD h i 0) .1))
+pub link-there : (h : List ℕ) (m i : ℕ) → i < m → m ≤ length h → T (linked (heldLinks m h) (heldLink h i .0) (heldLink h i .1))
 unfolding linkIn
 link-there [] m i l b = absurd (omega arith)
 link-there (x ∷ h) zero i l b = absurd (omega arith)
-link-there (x ∷ h) (suc m) zero l b = linked-head (linkIn x) (map linkIn (take m h)) _ _ (between-here _ _)
-link-there (x ∷ h) (suc m) (suc i) l b = linked-tail (linkIn x) (map linkIn (take m h)) _ _ (link-there h m i (omega arith) (omega arith))
+link-there (x ∷ h) (suc m) zero l b = linked-head (linkIn x) (heldLinks m h) _ _ (between-here _ _)
+link-there (x ∷ h) (suc m) (suc i) l b = linked-tail (linkIn x) (heldLinks m h) _ _ (link-there h m i (omega arith) (omega arith))
 
 -- Gathering link by link.
 module _ {n count : ℕ} {f h : List ℕ} (G : Gatherable n f h count) where
   pub gathers-none : Gathers n f h 0 f
   gathers-none = record { gathered = gathered-none n f (G .few-fragments) (G .long) (G .blank); kept = kept-refl n f }
 
-  module _ (i : ℕ) (l : i < count) {f′ : List ℕ} (S : Gathers n f h i f′) (a b : ℕ) (ea : a ≡ linkIn (getD h i 0) .0) (eb : b ≡ linkIn (getD h i 0) .1) where
-    few-yet : length (map linkIn (take i h)) < heldMost
+  module _ (i : ℕ) (l : i < count) {f′ : List ℕ} (S : Gathers n f h i f′) (a b : ℕ) (ea : a ≡ heldLink h i .0) (eb : b ≡ heldLink h i .1) where
+    few-yet : length (heldLinks i h) < heldMost
     few-yet = omega (arith, links-length h i (omega (arith, G .there)), G .few)
 
     pub gather-joinable : Joinable n f′ a b
     gather-joinable =
         let e = G .inside _ _ (link-there h count i l (G .there)) in
-        record { held = map linkIn (take i h); gathered = S .gathered; room = few-yet; one = rw ea (e .0); two = rw eb (e .1) }
+        record { held = heldLinks i h; gathered = S .gathered; room = few-yet; one = rw ea (e .0); two = rw eb (e .1) }
 
     pub gathers-more : (g : List ℕ) → Joins n a b f′ g → Gathers n f h (i + 1) g
     gathers-more g J =
-        let pair : linkIn (getD h i 0) ≡ (a, b) = λ j. (sym ea j, sym eb j) in
+        let pair : heldLink h i ≡ (a, b) = λ j. (sym ea j, sym eb j) in
         record {
-          gathered = rw (links-more h i (omega (arith, G .there)), pair) (J .more (map linkIn (take i h)) few-yet (S .gathered));
+          gathered = rw (links-more h i (omega (arith, G .there)), pair) (J .more (heldLinks i h) few-yet (S .gathered));
           kept = kept-trans (S .kept) (J .kept);
         }

@@ -3,28 +3,28 @@
 use Prim.Native.Nat.{ℕ, _+_, _-_, _*_, _%_, _≤_, _<_, min, max}
 use mathlib.Core.Path.{_≡_, refl, sym, ap, subst, _∙_}
 use mathlib.Core.Bool.{true, false}
-use mathlib.Core.List.{List, [], _∷_, _++_, map}
+use mathlib.Core.List.{List, [], _∷_, _++_}
 use mathlib.Core.Logic.{_≢_, inl, inr}
 use native.Mathlib.Omega.{arith}
 use native.Mathlib.Decide.{ℕ-discrete, decLt}
 use borrow.Author.Tests.{le-leb, lt-leb}
 use lib.Dec.{leb}
-use lib.ListN.{length, getD, set, take, drop, replicate, length-set, length-replicate, List·getD-append, getD-replicate}
-use lib.Seq.{getD-drop, getD-set-same, getD-set-other, take-set-le, drop-set-lt, length-take-le, getD-append-add}
+use lib.ListN.{length, getD, set, drop, length-set}
+use lib.Seq.{getD-drop, getD-set-same, getD-set-other, take-set-le, drop-set-lt}
 use Rattle.base.specs.Truth.{T-ext, T-true, T-false}
 use Rattle.base.specs.Answer.{gives}
 use Rattle.lists.specs.List.{scanLink}
 use Rattle.lists.specs.Laws.Link.{Accepted, link-told}
 use Rattle.rules.specs.Links.{Link, linked}
 use Rattle.rules.specs.Laws.Links.{between-here, linked-nil, linked-turn, append-left, snoc-cases, snoc-last}
-use Rattle.state.specs.Layout.{words, linkIn, wordOf}
+use Rattle.state.specs.Layout.{wiped, words, linkIn, wordOf, heldLinks}
 use Rattle.state.specs.Laws.Words.{link-word, word-small, word-some}
 use Rattle.state.specs.Call.{fragmentsMost}
-use Rattle.building.specs.Pieces.{wiped}
+use Rattle.state.specs.Laws.Clear.{wiped-length, wiped-front, wiped-past}
 use Rattle.building.specs.Index.{flag, Place, In}
 use Rattle.building.specs.Pieces.{Ends}
 use Rattle.building.specs.Noted.{slotAt, linkAt, wholeAt, Whole, Noted, Apart, Askable, Flags, Learnable, Flaggable, Stands, Fresh, Matching, Unnoted}
-use Rattle.building.specs.Laws.Scratch.{wiped-length, wiped-front, wiped-past}
+use Rattle.building.specs.Laws.Scratch.{wiped-within}
 use Rattle.building.specs.Laws.Index.{indexed-none, indexed-same, not-noted, is-noted, one-slot, set-indexed}
 use Rattle.building.specs.Laws.Batches.{one-word}
 
@@ -270,18 +270,6 @@ module _ {n w i : ℕ} {f : List ℕ} (P : Place (7 * n) (9 * n - 1) f w i) wher
         }
 
 -- Sections 7 to 15 cleared.
-module _ (from to : ℕ) (l : List ℕ) (b : from ≤ to) (g : to ≤ length l) where
-  cleared-at : (i : ℕ) → from ≤ i → i < to → getD (wiped from to l) i 0 ≡ 0
-  unfolding wiped
-  cleared-at i p q =
-      let r : List ℕ = replicate (to - from) 0 in
-      let m = length-take-le from l (omega arith) in
-      let e : i ≡ length (take from l) + (i - from) = omega arith in
-      ap (λ j. getD (take from l ++ (r ++ drop to l)) j 0) e
-      ∙ getD-append-add (take from l) (r ++ drop to l) (i - from) 0
-      ∙ List·getD-append r (drop to l) 0 (i - from) (omega (arith, length-replicate {A = ℕ} (to - from) 0))
-      ∙ getD-replicate (to - from) (i - from) 0 0 (omega arith)
-
 module _ {n : ℕ} (f : List ℕ) {f′ : List ℕ} (long : words * n ≤ length f) (e : f′ ≡ wiped (7 * n) (16 * n) f) where
   pub cleared-apart : Apart n f f′
   cleared-apart = rw e (record {
@@ -293,7 +281,7 @@ module _ {n : ℕ} (f : List ℕ) {f′ : List ℕ} (long : words * n ≤ length
   pub cleared-fresh : 0 < n → n ≤ fragmentsMost → Fresh n f′
   cleared-fresh s few =
       let l : words * n ≤ length f′ = omega (arith, cleared-apart .same-long) in
-      record { some = s; few-fragments = few; long = l; noted = noted-none n [] f′ l (λ i p q. rw e (cleared-at (7 * n) (16 * n) f (omega arith) long i p q)) }
+      record { some = s; few-fragments = few; long = l; noted = noted-none n [] f′ l (λ i p q. rw e (wiped-within (7 * n) (16 * n) f (omega arith) long i p q)) }
 
 -- A link of a block that was read.
 module _ (n told : ℕ) (block : List ℕ) (at a b next : ℕ) (e : scanLink n told block at ≡ gives (record { link = (a, b); next = next })) where
@@ -344,7 +332,7 @@ module _ {n a b : ℕ} (w : ℕ) (e : w ≡ wordOf (min a b, max a b)) where
 
 -- Nothing is noted, and that is every held link where none is.
 module _ {n count : ℕ} {f h : List ℕ} (U : Unnoted n count f h) where
-  pub unnoted-noted : Noted n (map linkIn (take count h)) f
+  pub unnoted-noted : Noted n (heldLinks count h) f
   unnoted-noted = noted-none n _ f (U .long) (U .empty)
 
   pub unnoted-matching : 0 < n → Matching n count (set f (7 * n + (9 * n - 1)) 1) h

@@ -1,58 +1,40 @@
--- Clearing a part of a table, and the table as it was found.
+-- Words of a table of which a part was cleared, scratch that is 0, and the table as it was found.
 -- Assumes nothing.
-use Prim.Native.Nat.{ℕ, suc, _+_, _-_, _*_, _≤_, _<_}
+use Prim.Native.Nat.{ℕ, _+_, _-_, _*_, _≤_, _<_}
 use mathlib.Core.Path.{_≡_, sym, ap, _∙_}
-use mathlib.Core.List.{List, _++_, append-assoc}
+use mathlib.Core.List.{List, _++_}
 use native.Mathlib.Omega.{arith}
-use native.Mathlib.Numerals.{add-one}
-use native.Mathlib.Nat.{sub-self}
+use native.Mathlib.Decide.{decLt}
 use lib.Dec.{T}
-use lib.ListN.{length, getD, set, take, drop, replicate, take-append-drop, length-append, length-take, length-drop, length-replicate, getD-replicate}
-use lib.Seq.{drop-cons, set-at, drop-drop, take-at, drop-at, getD-take, getD-drop}
-use Rattle.state.specs.Layout.{words, stored}
+use lib.ListN.{length, getD, take, drop, replicate, length-take, length-drop, length-replicate, getD-replicate, List·getD-append}
+use lib.Seq.{ext-getD, getD-take, getD-drop, getD-append-add}
+use Rattle.state.specs.Layout.{words, stored, wiped}
 use Rattle.state.specs.Test.{allZero}
-use Rattle.state.specs.Laws.Lists.{zeros, drop-take, zeros-between, all-zeros}
-use Rattle.building.specs.Pieces.{wiped, Kept}
+use Rattle.state.specs.Laws.Clear.{wiped-length, wiped-front, wiped-rest}
+use Rattle.state.specs.Laws.Lists.{all-zeros}
+use Rattle.building.specs.Pieces.{Kept}
 
-pub wiped-none : (from : ℕ) (l : List ℕ) → l ≡ wiped from from l
-unfolding wiped
-wiped-none from l = rw sub-self (sym (take-append-drop from l))
+module _ (from to : ℕ) (l : List ℕ) (b : from ≤ to) (h : to ≤ length l) where
+  behind-front : (i : ℕ) → from ≤ i → getD (wiped from to l) i 0 ≡ getD (replicate (to - from) 0 ++ drop to l) (i - from) 0
+  behind-front i g =
+      let e : i ≡ from + (i - from) = omega arith in
+      ap (λ (j : ℕ). getD (wiped from to l) j 0) e ∙ sym (getD-drop from (wiped from to l) (i - from) 0) ∙ ap (λ (r : List ℕ). getD r (i - from) 0) (wiped-rest from to l b h)
 
-pub wiped-more : (from m : ℕ) (l : List ℕ) → from ≤ m → m < length l → set (wiped from m l) m 0 ≡ wiped from (m + 1) l
-unfolding wiped
-wiped-more from m l b h =
-    let P : List ℕ = take from l ++ replicate (m - from) 0 in
-    let z : m + 1 - from ≡ m - from + 1 = omega arith in
-    ap (λ r. set (take from l ++ (replicate (m - from) 0 ++ r)) m 0) (drop-cons l m 0 h)
-    ∙ ap (λ r. set r m 0) (sym (append-assoc (take from l) (replicate (m - from) 0) _))
-    ∙ set-at P (getD l m 0) (drop (suc m) l) 0 m (simp (length-append, length-take, length-replicate) (omega arith))
-    ∙ append-assoc (take from l) (replicate (m - from) 0) _
-    ∙ ap (λ r. take from l ++ r) (sym (zeros (m - from) 1 (m + 1 - from) (drop (suc m) l) z) ∙ ap (λ i. replicate (m + 1 - from) 0 ++ drop i l) (sym (add-one m)))
+  pub wiped-before : (i : ℕ) → i < from → getD (wiped from to l) i 0 ≡ getD l i 0
+  wiped-before i g = sym (getD-take from (wiped from to l) i 0 g) ∙ ap (λ (r : List ℕ). getD r i 0) (wiped-front from to l b h) ∙ getD-take from l i 0 g
 
-pub wiped-length : (from to : ℕ) (l : List ℕ) → from ≤ to → to ≤ length l → length (wiped from to l) ≡ length l
-unfolding wiped
-wiped-length from to l b h = simp (length-append, length-take, length-replicate, length-drop) (omega arith)
+  pub wiped-within : (i : ℕ) → from ≤ i → i < to → getD (wiped from to l) i 0 ≡ 0
+  wiped-within i g k =
+      let e : length (replicate {A = ℕ} (to - from) 0) ≡ to - from = length-replicate (to - from) 0 in
+      behind-front i g ∙ List·getD-append (replicate (to - from) 0) (drop to l) 0 (i - from) (omega arith) ∙ getD-replicate (to - from) (i - from) 0 0 (omega arith)
 
--- The words before and past the part stay.
-module _ (from to : ℕ) (l : List ℕ) (b : from ≤ to) (g : to ≤ length l) where
-  pub wiped-front : take from (wiped from to l) ≡ take from l
-  unfolding wiped
-  wiped-front = take-at (take from l) _ from (simp length-take (omega arith))
-
-  pub wiped-rest : drop from (wiped from to l) ≡ replicate (to - from) 0 ++ drop to l
-  unfolding wiped
-  wiped-rest = drop-at (take from l) _ from (simp length-take (omega arith))
-
-  pub wiped-past : drop to (wiped from to l) ≡ drop to l
-  wiped-past =
-      let z : to ≡ from + (to - from) = omega arith in
-      ap (λ i. drop i (wiped from to l)) z ∙ sym (drop-drop (to - from) from (wiped from to l)) ∙ ap (λ x. drop (to - from) x) wiped-rest
-      ∙ drop-at (replicate (to - from) 0) (drop to l) (to - from) (length-replicate (to - from) 0)
-
--- Words that were 0 are 0 again.
-pub wiped-back : (from to : ℕ) (f g : List ℕ) → from ≤ to → to ≤ length f → T (allZero (drop from (take to f))) → take from g ≡ take from f → drop to g ≡ drop to f → wiped from to g ≡ f
-unfolding wiped
-wiped-back from to f g b h z e d = rw (e, d) (sym (zeros-between from to f b h z))
+  pub wiped-behind : (i : ℕ) → to ≤ i → getD (wiped from to l) i 0 ≡ getD l i 0
+  wiped-behind i g =
+      let e : length (replicate {A = ℕ} (to - from) 0) ≡ to - from = length-replicate (to - from) 0 in
+      let k : i - from ≡ length (replicate {A = ℕ} (to - from) 0) + (i - to) = omega arith in
+      let m : to + (i - to) ≡ i = omega arith in
+      behind-front i (omega arith) ∙ ap (λ (j : ℕ). getD (replicate (to - from) 0 ++ drop to l) j 0) k ∙ getD-append-add (replicate (to - from) 0) (drop to l) (i - to) 0
+      ∙ getD-drop to l (i - to) 0 ∙ ap (λ (j : ℕ). getD l j 0) m
 
 -- All scratch is 0.
 abbrev pub Blank : ℕ → List ℕ → Type 0
@@ -67,13 +49,17 @@ blank-at n f l z i h g =
     ∙ ap (λ r. getD r (i - stored * n) 0) (all-zeros (take ((words - stored) * n) (drop (stored * n) f)) ((words - stored) * n) (simp (length-take, length-drop) (omega arith)) z)
     ∙ getD-replicate ((words - stored) * n) (i - stored * n) 0 0 (omega arith)
 
--- Scratch cleared: the table as it was found, where nothing but the three sections of the pieces was written.
-pub scratch-back : (n : ℕ) (f g : List ℕ) → words * n ≤ length f → Blank n f → Kept n f g → wiped (stored * n) (words * n) g ≡ f
-scratch-back n f g l z k =
-    let e : words * n ≡ stored * n + (words - stored) * n = omega arith in
-    let p : words * n ≡ 7 * n + 9 * n = omega arith in
-    let past : (x : List ℕ) → drop (words * n) x ≡ drop (9 * n) (drop (7 * n) x) = λ x. ap (λ i. drop i x) p ∙ sym (drop-drop (9 * n) (7 * n) x) in
-    wiped-back (stored * n) (words * n) f g (omega arith) l
-    (rw (e, drop-take (stored * n) ((words - stored) * n) f) z)
-    (k .before)
-    (past g ∙ ap (λ r. drop (9 * n) r) (k .behind) ∙ sym (past f))
+-- The sections of the pieces cleared: the table as it was found, where nothing else was written.
+pub pieces-back : (n : ℕ) (f g : List ℕ) → words * n ≤ length f → Blank n f → Kept n f g → wiped (stored * n) (7 * n) g ≡ f
+pieces-back n f g l z k =
+    let m : 7 * n ≤ length g = omega (arith, k .same-length) in
+    ext-getD 0 (wiped (stored * n) (7 * n) g) f (wiped-length (stored * n) (7 * n) g (omega arith) m ∙ k .same-length) (λ i h. elim (decLt i (stored * n)) [
+      | yes a ↦ wiped-before (stored * n) (7 * n) g (omega arith) m i a ∙ sym (getD-take (stored * n) g i 0 a) ∙ ap (λ (r : List ℕ). getD r i 0) (k .before) ∙ getD-take (stored * n) f i 0 a
+      | no a ↦ elim (decLt i (7 * n)) [
+        | yes b ↦ wiped-within (stored * n) (7 * n) g (omega arith) m i (omega arith) b ∙ sym (blank-at n f l z i (omega arith) (omega arith))
+        | no b ↦
+            let e : i ≡ 7 * n + (i - 7 * n) = omega arith in
+            wiped-behind (stored * n) (7 * n) g (omega arith) m i (omega arith) ∙ ap (λ (j : ℕ). getD g j 0) e ∙ sym (getD-drop (7 * n) g (i - 7 * n) 0)
+            ∙ ap (λ (r : List ℕ). getD r (i - 7 * n) 0) (k .behind) ∙ getD-drop (7 * n) f (i - 7 * n) 0 ∙ ap (λ (j : ℕ). getD f j 0) (sym e)
+      ]
+    ])

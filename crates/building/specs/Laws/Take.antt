@@ -3,71 +3,44 @@
 use Prim.Native.Nat.{ℕ, zero, suc, _+_, _-_, _*_, _/_, _%_, _≤_}
 use mathlib.Core.Path.{_≡_, refl, sym, ap, _∙_}
 use mathlib.Core.Bool.{Bool, true, false, _&&_, not}
-use mathlib.Core.List.{List, [], _∷_, map}
+use mathlib.Core.List.{List, [], _∷_}
 use native.Mathlib.Omega.{arith}
-use native.Mathlib.Decide.{ℕ-discrete}
 use lib.Dec.{T, ltb, eqb, ltb→lt}
 use lib.ListN.{length, take, drop}
 use lib.Seq.{drop-drop}
 use Rattle.base.specs.Pick.{pick-true, tests}
-use Rattle.base.specs.Truth.{and-l, and-r, T-dec, T-true, T-false, true-T}
+use Rattle.base.specs.Truth.{and-l, and-r, true-T}
 use Rattle.base.specs.Answer.{gives, refuses}
 use Rattle.lists.specs.List.{blockLinks, scanBlock}
 use Rattle.lists.specs.Laws.Block.{scan-gives, scan-refuses}
 use Rattle.rules.specs.Links.{Link}
 use Rattle.rules.specs.Tables.{Tables, placed}
 use Rattle.rules.specs.Building.{buildLinks}
-use Rattle.state.specs.Layout.{radix, linkIn, tablesIn, fragOf, heldOf}
-use Rattle.state.specs.Test.{isBuilding, allZero, endsFit, sound}
-use Rattle.state.specs.Call.{boundsRefusal, headRefusal, headed, moved, leaves}
+use Rattle.state.specs.Layout.{movedOn, heldLinks, wiped, radix, linkIn, tablesIn, fragOf, heldOf}
+use Rattle.state.specs.Test.{isBuilding, allZero, endsFit}
+use Rattle.state.specs.Call.{headRefusal, headed, moved, leaves}
 use Rattle.state.specs.Take.{tell, taken, takeIn}
 use Rattle.state.specs.Told.{takenTold}
 use Rattle.state.specs.Laws.Lists.{drop-take}
 use Rattle.state.specs.Laws.Layout.{tables-state}
 use Rattle.state.specs.Laws.Lay.{frag-laid, held-laid}
-use Rattle.state.specs.Laws.Bounds.{Bounds, bounds-known}
-use Rattle.state.specs.Laws.Tests.{head-bounds, head-stage, head-unsound}
-use Rattle.state.specs.Laws.Sound.{Sound, sound-known, underway}
+use Rattle.state.specs.Laws.Sound.{underway}
 use Rattle.state.specs.declared.State.{State}
-use Rattle.state.specs.declared.Stage.{Stage}
-use Rattle.state.specs.declared.Stage.the-variants.{Building, Built, Reading, Read}
+use Rattle.state.specs.declared.Stage.the-variants.{Building}
 use Rattle.state.specs.declared.Taken.the-variants.{On, Refused}
-use Rattle.building.specs.Laws.Telling.{drop-more}
-use Rattle.building.specs.Telling.{holds, heldTables, Rising, Rest, Tellable, Settles, Told}
-
--- What is known where the head of a call in Building refuses nothing.
-pub record Passed (s : State) (f h : List ℕ) : Type 0 where
-  pub bounds : Bounds (s .n) (s .k) (length f) (length h)
-  pub stage : s .stage ≡ Building
-  pub found : Sound s f h
-
-is-building : (g : Stage) → T (isBuilding g) → g ≡ Building
-is-building Building t = refl
-is-building Built t = absurd t
-is-building Reading t = absurd t
-is-building Read t = absurd t
-
-pub passed : (s : State) (f h : List ℕ) → headRefusal isBuilding s f h ≡ 0 → Passed s f h
-passed s f h z =
-    let b = boundsRefusal (s .n) (s .k) (length f) (length h) in
-    elim (ℕ-discrete b 0) [
-      | no d ↦ absurd (d (head-bounds isBuilding s f h b refl d ∙ z))
-      | yes e ↦ elim (T-dec (isBuilding (s .stage))) [
-        | no q ↦ absurd (omega (arith, head-stage isBuilding s f h b refl e (T-false (isBuilding (s .stage)) q) ∙ z))
-        | yes q ↦ elim (T-dec (sound s f h)) [
-          | no r ↦ absurd (omega (arith, head-unsound isBuilding s f h b refl e (T-true (isBuilding (s .stage)) q) (sym (T-false (sound s f h) r)) ∙ z))
-          | yes r ↦
-              let k = bounds-known (s .n) (s .k) (length f) (length h) e in
-              record { bounds = k; stage = is-building (s .stage) q; found = sound-known s f h k r }
-        ]
-      ]
-    ]
+use Rattle.building.specs.Pieces.{Gathers}
+use Rattle.building.specs.Laws.Passed.{Passed, passed}
+use Rattle.building.specs.Laws.Scratch.{pieces-back}
+use Rattle.building.specs.Laws.Gathered.{laid-gathers, gathered-not, gathered-is}
+use Rattle.building.specs.Laws.Telling.{drop-more, gatherable}
+use Rattle.building.specs.Gathered.{holds, heldTables, withPieces, gatheredIn}
+use Rattle.building.specs.Telling.{Rising, Rest, Tellable, Settles, MayTell, TellsAll}
 
 -- Held links that pass the test stand with the smaller end first.
 abbrev wordFits : ℕ → Tables → ℕ → Bool
 wordFits n t x = ltb (x / radix) (x % radix) && (ltb (x % radix) n && (not (placed t (x / radix)) && not (placed t (x % radix))))
 
-ends-rising : (n : ℕ) (t : Tables) (h : List ℕ) (m : ℕ) → m ≤ length h → T (endsFit n t (map linkIn (take m h))) → Rising m h
+ends-rising : (n : ℕ) (t : Tables) (h : List ℕ) (m : ℕ) → m ≤ length h → T (endsFit n t (heldLinks m h)) → Rising m h
 unfolding endsFit linkIn
 ends-rising n t [] m b e i l = absurd (omega arith)
 ends-rising n t (x ∷ h) zero b e i l = absurd (omega arith)
@@ -97,11 +70,11 @@ same-on d b h h′ l e =
     let z : d + (b - d) ≡ b = omega arith in
     ap (λ i. drop d (take i h′)) (sym z) ∙ drop-take d (b - d) h′ ∙ ap (λ x. take (b - d) x) e ∙ sym (drop-take d (b - d) h) ∙ ap (λ i. drop d (take i h)) z
 
--- The answers of take. The head leaves the fragment table g, which is the one it found, and its refusal r.
-module _ (s : State) (f h block g : List ℕ) (same : g ≡ f) (r : ℕ) (er : r ≡ headRefusal isBuilding s f h) where
+-- The answers of take. Its first step leaves the fragment table g and the refusal r.
+module _ (s : State) (f h block g : List ℕ) (same : g ≡ gatheredIn s f h) (r : ℕ) (er : r ≡ headRefusal isBuilding s f h) where
   pub take-head : (r ≡ 0 → ⊥) → takenTold s (Refused (record { number = r; place = 0 })) g h ≡ takeIn isBuilding s f h block
   unfolding takeIn headed
-  take-head d = rw (same, ← er) (simp tests)
+  take-head d = rw (same ∙ sym (gathered-not s f h (λ z. d (er ∙ z))), ← er) (simp tests)
 
   module _ (none : r ≡ 0) where
     take-on : taken s f h (blockLinks (s .n) (s .entries) block) ≡ takeIn isBuilding s f h block
@@ -113,10 +86,6 @@ module _ (s : State) (f h block g : List ℕ) (same : g ≡ f) (r : ℕ) (er : r
 
     open Passed take-passed using (bounds, stage, found)
 
-    pub take-refused : (number place : ℕ) → refuses number place ≡ scanBlock (s .n) (s .entries) block → takenTold s (Refused (record { number = number; place = place })) g h ≡ takeIn isBuilding s f h block
-    unfolding taken
-    take-refused number place e = rw same (rw (scan-refuses (s .n) (s .entries) block (λ z. omega (arith, bounds)) (bounds .fragments) number place (sym e)) at take-on)
-
     in-building : isBuilding (s .stage) ≡ true
     in-building = ap isBuilding stage
 
@@ -127,8 +96,8 @@ module _ (s : State) (f h block g : List ℕ) (same : g ≡ f) (r : ℕ) (er : r
     unfolding tablesIn
     held-rising = ends-rising (s .n) (tablesIn s f h) h (s .held) (omega (arith, bounds, found .agrees .held-room)) (found .agrees .ends-fit)
 
-    pub take-tells : Tellable (s .n) (s .k) (s .held) g h
-    take-tells = rw same (record {
+    tellable : Tellable (s .n) (s .k) (s .held) f h
+    tellable = record {
       few-fragments = bounds .fragments;
       some-room = bounds .some-room;
       few-room = bounds .room;
@@ -138,11 +107,27 @@ module _ (s : State) (f h block g : List ℕ) (same : g ≡ f) (r : ℕ) (er : r
       as-many = rw same-tables (sym (found .agrees .as-many));
       rising = held-rising;
       blank = found .scratch;
-    })
+    }
+
+    laid-here : g ≡ withPieces (s .n) (heldLinks (s .held) h) f
+    laid-here = same ∙ sym (gathered-is s f h (sym er ∙ none))
+
+    gathers : Gathers (s .n) f h (s .held) g
+    gathers = rw laid-here (laid-gathers (gatherable tellable))
+
+    pub take-tells : MayTell (s .n) (s .k) (s .held) g h
+    take-tells = record { found = f; tellable = tellable; gathers = gathers }
+
+    -- A block that is refused leaves the table as it was found.
+    pub take-refused : (number place : ℕ) → refuses number place ≡ scanBlock (s .n) (s .entries) block → (f′ : List ℕ) → f′ ≡ wiped (4 * s .n) (7 * s .n) g → takenTold s (Refused (record { number = number; place = place })) f′ h ≡ takeIn isBuilding s f h block
+    unfolding taken
+    take-refused number place e f′ w =
+        let back : f′ ≡ f = w ∙ pieces-back (s .n) f g (bounds .frag-long) (found .scratch) (gathers .kept) in
+        rw back (rw (scan-refuses (s .n) (s .entries) block (λ z. omega (arith, bounds)) (bounds .fragments) number place (sym e)) at take-on)
 
     -- The state to go on with.
     abbrev after : (count held : ℕ) → State
-    after count held = record { n = s .n; k = s .k; stage = Building; passes = s .passes; entries = s .entries + count; held = held; crossed = false }
+    after count held = movedOn s Building (s .passes) (s .entries + count) held false
 
     module _ (links : List Link) (held : ℕ) (f′ h′ : List ℕ) (S : Settles (s .n) (s .k) (s .held) f h held f′ h′ (buildLinks (s .n) (s .k) (heldTables (s .n) (s .held) f h) links)) where
       abbrev t : Tables
@@ -180,8 +165,8 @@ module _ (s : State) (f h block g : List ℕ) (same : g ≡ f) (r : ℕ) (er : r
       accepted = λ i. record { answer = gives tt; state = moved-is i; frag = frag-is i; held = held-is i }
 
     pub take-accepted : (count : ℕ) → gives count ≡ scanBlock (s .n) (s .entries) block → (x held : ℕ) (f′ h′ : List ℕ) → x ≡ count
-        → Told (s .n) (s .k) (s .held) (s .entries) block g h held f′ h′ → takenTold s (On (after x held)) f′ h′ ≡ takeIn isBuilding s f h block
+        → TellsAll (s .n) (s .k) (s .held) (s .entries) block g h held f′ h′ → takenTold s (On (after x held)) f′ h′ ≡ takeIn isBuilding s f h block
     unfolding blockLinks
     take-accepted count e x held f′ h′ ex D =
         let (links, p, q) = scan-gives (s .n) (s .entries) block count (sym e) in
-        ap (λ c. takenTold s (On (after c held)) f′ h′) (ex ∙ q) ∙ accepted links held f′ h′ (rw same at (D links p)) ∙ sym (ap (taken s f h) p) ∙ take-on
+        ap (λ c. takenTold s (On (after c held)) f′ h′) (ex ∙ q) ∙ accepted links held f′ h′ (D f tellable gathers links p) ∙ sym (ap (taken s f h) p) ∙ take-on

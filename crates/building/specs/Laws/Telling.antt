@@ -3,7 +3,7 @@
 use Prim.Native.Nat.{ℕ, zero, suc, _+_, _-_, _*_, _≤_, _<_, min, max}
 use mathlib.Core.Path.{_≡_, refl, sym, ap, _∙_}
 use mathlib.Core.Bool.{Bool, true, false, true≢false, false≢true}
-use mathlib.Core.List.{List, [], _∷_, _++_, map}
+use mathlib.Core.List.{List, [], _∷_, _++_}
 use mathlib.Core.Logic.{inl, inr}
 use native.Mathlib.Omega.{arith}
 use native.Mathlib.Decide.{ℕ-discrete}
@@ -12,7 +12,7 @@ use native.Mathlib.Nat.{mul-le-mul}
 use lib.Dec.{T, ltb}
 use lib.ListN.{length, getD, set, take, drop, replicate, length-set, length-append, length-replicate}
 use lib.Seq.{getD-set-same, getD-set-other, set-getD, drop-set-lt, take-take, drop-drop, take-at}
-use Rattle.base.specs.Pick.{pick, pick-true, pick-false, tests}
+use Rattle.base.specs.Pick.{pick, pick-true, pick-false, pick-all, tests}
 use Rattle.base.specs.Answer.{Answer, gives, refuses}
 use Rattle.lists.specs.List.{scanLink, linksAt}
 use Rattle.lists.specs.Laws.Link.{Accepted, link-read, link-told}
@@ -26,18 +26,25 @@ use Rattle.rules.specs.Laws.Pieces.{linked-label, label-in, label-own}
 use Rattle.rules.specs.Laws.Tables.{placed-loose, rank-placed}
 use Rattle.rules.specs.Laws.Quota.{held-few}
 use Rattle.rules.specs.Laws.Step.{building-kept}
-use Rattle.state.specs.Layout.{words, stored, linkIn, wordOf, tablesIn, forestIn}
+use Rattle.state.specs.Layout.{wiped, words, stored, wordOf, tablesIn, forestIn, heldLinks}
 use Rattle.state.specs.Test.{allZero}
+use Rattle.state.specs.Laws.Clear.{wiped-length, wiped-front, wiped-rest, wiped-past}
 use Rattle.state.specs.Laws.Lists.{zeros-pass}
 use Rattle.state.specs.Laws.Words.{link-word}
 use Rattle.state.specs.Laws.Layout.{store-note, store-mark, store-held, tables-frag-same}
-use Rattle.building.specs.Pieces.{wiped, Ends, heldMost, Gathered, Finds, Joins, Gatherable, Gathers}
+use Rattle.building.specs.Pieces.{Ends, heldMost, Gathered, Finds, Joins, Gatherable, Gathers}
 use Rattle.building.specs.Noted.{Noted, Apart, Askable, Answers, Learnable, Unnoted}
-use Rattle.building.specs.Laws.Scratch.{wiped-length, wiped-front, wiped-rest, wiped-past, blank-at}
+use Rattle.building.specs.Laws.Scratch.{blank-at}
 use Rattle.building.specs.Laws.Pieces.{front-at, rest-at, gathered-by}
 use Rattle.building.specs.Laws.Noted.{noted-none, noted-keeps}
 use Rattle.building.specs.Laws.Gather.{link-there}
-use Rattle.building.specs.Telling.{holds, heldTables, Rising, Telling, Leaves, noting, Notable, roomAt, Sized, Holdable, Holds, Between, Within, MayHold, Rest, Tells, Tellable, Told}
+use Rattle.building.specs.Gathered.{holds, heldTables}
+use Rattle.building.specs.Telling.{Rising, Telling, Leaves, noting, Notable, roomAt, Sized, Holdable, Holds, Between, Within, MayHold, Rest, Tells, Tellable, Told}
+
+-- The better of two notes is one of them.
+pub better-small : (n : ℕ) (t : Tables) (old new r : ℕ) → r ≡ better t old new → old ≤ n → new ≤ n → r ≤ n
+unfolding better
+better-small n t old new r e a b = rw e (pick-all (λ x. x ≤ n) _ _ _ a (pick-all (λ x. x ≤ n) _ _ _ b (pick-all (λ x. x ≤ n) _ _ _ b (pick-all (λ x. x ≤ n) _ _ _ b a))))
 
 -- The better note in its place.
 module _ {n u p : ℕ} {f : List ℕ} (N : Notable n u p f) where
@@ -519,7 +526,7 @@ module _ {n k first entries : ℕ} {block f₀ h₀ : List ℕ} {count : ℕ} {f
           }
     ]
 
--- The whole block: the pieces are gathered first, and scratch is cleared at the end.
+-- The whole block: the pieces stand gathered, and scratch is cleared at the end.
 module _ (from to : ℕ) (l : List ℕ) (b : from ≤ to) (g : to ≤ length l) where
   wiped-zero : T (allZero (take (to - from) (drop from (wiped from to l))))
   wiped-zero = rw (wiped-rest from to l b g, take-at (replicate (to - from) 0) (drop to l) (to - from) (length-replicate (to - from) 0)) (zeros-pass (to - from))
@@ -545,7 +552,7 @@ module _ {n k count : ℕ} {f h : List ℕ} (W : Tellable n k count f h) where
     same-tables : heldTables n count g h ≡ heldTables n count f h
     same-tables = tables-frag-same (holds n count) f g h (G .kept .before)
 
-    links-same : heldTables n count g h .held ≡ map linkIn (take count h)
+    links-same : heldTables n count g h .held ≡ heldLinks count h
     unfolding tablesIn
     links-same = refl
 
@@ -573,7 +580,7 @@ module _ {n k count : ℕ} {f h : List ℕ} (W : Tellable n k count f h) where
       noted = noted-none n _ g (unnoted .long) (unnoted .empty);
     }
 
-    module _ (g′ : List ℕ) (N : Noted n (map linkIn (take count h)) g′) (A : Apart n g g′) where
+    module _ (g′ : List ℕ) (N : Noted n (heldLinks count h) g′) (A : Apart n g g′) where
       noted-leaves : Leaves n k count g h count g′ h (heldTables n count g h)
       noted-leaves =
           leaves-scratch gathered-telling g′ (A .same-long) (apart-stored A) (A .past) (apart-gathered A _ (gathered-telling .gathered)) (rw links-same N)

@@ -3,7 +3,7 @@
 use Prim.Native.Nat.{ℕ, zero, suc, pred, _+_, _-_, _*_, _≤_, _<_}
 use mathlib.Core.Path.{_≡_, refl, sym, ap, _∙_}
 use mathlib.Core.Bool.{Bool, true, false, _&&_, _||_, not}
-use mathlib.Core.List.{List, [], _∷_, map}
+use mathlib.Core.List.{List, [], _∷_}
 use mathlib.Core.Logic.{inl, inr}
 use native.Mathlib.Omega.{arith}
 use native.Mathlib.Decide.{decLt}
@@ -17,7 +17,7 @@ use Rattle.rules.specs.Tables.{Tables, parentOf, rank, noteOf, markOf, placed}
 use Rattle.rules.specs.Building.{done}
 use Rattle.rules.specs.Laws.Search.{every-at, every-intro, count-yes}
 use Rattle.rules.specs.Laws.Ceiling.{count-short}
-use Rattle.state.specs.Layout.{words, stored, linkIn, tablesIn, forestIn}
+use Rattle.state.specs.Layout.{words, stored, tablesIn, forestIn, heldLinks}
 use Rattle.state.specs.Test.{entriesMost, isBuilding, asked, allZero, stageFits, standsAt, forestFits, endsFit, heldFits, noteFits, clearAt, notesFit, restZero, countsFit, readFits, markFits, restAgrees, fits, sound}
 use Rattle.state.specs.Laws.Bounds.{Bounds}
 use Rattle.state.specs.Laws.Lists.{drop-take}
@@ -239,9 +239,9 @@ rest-is : (s : State) (f h : List ℕ) → stateFits s (count (placed (tablesIn 
 unfolding restFits fragmentFits waitsAt standsAt clearAt placed parentOf rank noteOf markOf tablesIn
 rest-is s f h = rw (rest-words s f h)
 
-links-are : (s : State) (f h : List ℕ) → linksFit (s .n) (s .k) (tablesIn s f h) (tablesIn s f h .held) ≡ linksFit (s .n) (s .k) (forestIn (s .n) f) (map linkIn (take (s .held) h))
+links-are : (s : State) (f h : List ℕ) → linksFit (s .n) (s .k) (tablesIn s f h) (tablesIn s f h .held) ≡ linksFit (s .n) (s .k) (forestIn (s .n) f) (heldLinks (s .held) h)
 unfolding linksFit tablesIn
-links-are s f h = rw (ends-alone s f h (map linkIn (take (s .held) h)))
+links-are s f h = rw (ends-alone s f h (heldLinks (s .held) h))
 
 in-building : (g : Stage) → isBuilding g ≡ true → g ≡ Building
 in-building Building e = refl
@@ -251,7 +251,7 @@ in-building Read e = absurd (true-T false e)
 
 -- The test in Building is the rest, then the held links.
 pub sound-is : (s : State) (f h : List ℕ) → isBuilding (s .stage) ≡ true
-    → sound s f h ≡ restFits s f h && linksFit (s .n) (s .k) (forestIn (s .n) f) (map linkIn (take (s .held) h))
+    → sound s f h ≡ restFits s f h && linksFit (s .n) (s .k) (forestIn (s .n) f) (heldLinks (s .held) h)
 unfolding sound
 sound-is s f h e =
     let t = tablesIn s f h in
@@ -318,5 +318,5 @@ module _ (s : State) (f h : List ℕ) (e : isBuilding (s .stage) ≡ true) where
   pub sound-not : false ≡ restFits s f h → false ≡ sound s f h
   sound-not r = rw (sound-is s f h e, ← r)
 
-  pub sound-links : true ≡ restFits s f h → (b : Bool) → b ≡ linksFit (s .n) (s .k) (forestIn (s .n) f) (map linkIn (take (s .held) h)) → b ≡ sound s f h
+  pub sound-links : true ≡ restFits s f h → (b : Bool) → b ≡ linksFit (s .n) (s .k) (forestIn (s .n) f) (heldLinks (s .held) h) → b ≡ sound s f h
   sound-links r b l = rw (sound-is s f h e, ← r) l

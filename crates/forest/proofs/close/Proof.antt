@@ -7,7 +7,7 @@ use Rattle.forest.proofs.close.Statement.{statement}
 use Rattle.forest.proofs.close.Tie as tie
 use Rattle.forest.proofs.close.Reads as reads
 use Rattle.forest.proofs.close.Lts as lts
-use Rattle.building.proofs.close.Reads as closing-close-reads
+use Rattle.closing.proofs.close.Reads as closing-close-reads
 use Rattle.forest.proofs.in_building.Reads as in-building-reads
 use Rattle.reading.proofs.close.Reads as closing-close-reads′
 

@@ -7,9 +7,6 @@ use Rattle.building.specs.Index.{Way}
 use Rattle.building.specs.Laws.Index.{home-in, way-none, way-more}
 use Rattle.building.proofs.index.look.Statement.{statement}
 use Rattle.building.proofs.index.look.Tie as tie
-use Rattle.building.proofs.index.look.Reads as reads
-use Rattle.building.proofs.index.look.Lts as lts
-use Rattle.building.proofs.index.home.Reads as home-reads
 
 abbrev Inv-loop : tie.InvT-loop
 Inv-loop frag at size w i₀ i = (i ≤ size) × Way at size frag w i
@@ -17,31 +14,26 @@ Inv-loop frag at size w i₀ i = (i ≤ size) × Way at size frag w i
 abbrev μ-loop : tie.MeasureT-loop
 μ-loop frag at size w i₀ i = size - i
 
--- src/index.rt:24:5
 loop-holds : tie.Need-loop-holds Inv-loop μ-loop
 loop-holds c =
     let a = c .before .before .args in
     rw (c .home .ensures) (omega (arith, home-in (a .size) (a .w) (c .before .before .pre .some)), way-none)
 
--- src/index.rt:27:13
 returns : tie.Need-returns Inv-loop μ-loop
 returns c =
     let l = c .before .before .before .loop in
     record { in-range = l .inv .0; way = l .inv .1; ends = λ h d. absurd (d (c .if1 .taken)) }
 
--- src/index.rt:30:13
 returns-2 : tie.Need-returns-2 Inv-loop μ-loop
 returns-2 c =
     let l = c .before .before .before .before .loop in
     record { in-range = l .inv .0; way = l .inv .1; ends = λ h d. c .if2 .taken }
 
--- src/index.rt:24:5
 loop-again : tie.Need-loop-again Inv-loop μ-loop
 loop-again c =
     let l = c .before .before .before .before .loop in
     (omega arith, way-more (l .inv .1) (c .before .if1 .left) (c .if2 .left))
 
--- src/index.rt:19:1
 returns-3 : tie.Need-returns-3 Inv-loop μ-loop
 returns-3 c =
     let l = c .before .loop in

@@ -64,16 +64,14 @@ returns-2 c =
     let (q, l, g, m) = c .before .none-noted .ensures .one (not-true _ (c .if2 .taken)) in
     compared-twice (c .before .before .before .before .before .before .before .before .before .loop .inv) (e .outside) (noted-twice B q l g m)
 
-mul-wipe : tie.Need-mul-wipe Inv-loop μ-loop
-mul-wipe c = omega (arith, c .before .before .before .before .before .before .before .before .before .before .loop .inv .comparable .few-fragments)
+mul-clear : tie.Need-mul-clear Inv-loop μ-loop
+mul-clear c = omega (arith, c .before .before .before .before .before .before .before .before .before .before .loop .inv .comparable .few-fragments)
 
-mul-wipe-2 : tie.Need-mul-wipe-2 Inv-loop μ-loop
-mul-wipe-2 c = omega (arith, c .before .before .before .before .before .before .before .before .before .before .loop .inv .comparable .few-fragments)
+mul-clear-2 : tie.Need-mul-clear-2 Inv-loop μ-loop
+mul-clear-2 c = omega (arith, c .before .before .before .before .before .before .before .before .before .before .loop .inv .comparable .few-fragments)
 
-wipe-requires : tie.Need-wipe-requires Inv-loop μ-loop
-wipe-requires c κs =
-    let l = c .before .before .before .before .before .before .before .before .before .before .loop .inv .comparable in
-    (omega arith, omega (arith, l .long, c .before .before .before .before .before .before .before .note-batch .ensures .outside .same-long))
+clear-requires : tie.Need-clear-requires Inv-loop μ-loop
+clear-requires c κs = tt
 
 loop-less : tie.Need-loop-less Inv-loop μ-loop
 loop-less c =
@@ -84,7 +82,7 @@ loop-again : tie.Need-loop-again Inv-loop μ-loop
 loop-again c =
     let e = c .before .before .before .before .before .before .before .before .before .before .note-batch .ensures in
     let (a, k, B) = e .noted (c .before .before .before .before .before .before .before .if1 .left) in
-    compared-more (c .before .before .before .before .before .before .before .before .before .before .before .before .before .loop .inv) (e .outside) B k (c .before .before .before .before .before .none-noted .ensures .none (not-false _ (c .before .before .before .before .if2 .left))) _ (c .before .before .wipe .ensures)
+    compared-more (c .before .before .before .before .before .before .before .before .before .before .before .before .before .loop .inv) (e .outside) B k (c .before .before .before .before .before .none-noted .ensures .none (not-false _ (c .before .before .before .before .if2 .left))) _ (c .before .before .clear .ensures)
 
 same-length-3 : tie.Need-same-length-3 Inv-loop μ-loop
 same-length-3 c = ap length (c .before .loop .inv .same)
@@ -109,9 +107,9 @@ class-differs-spec =
     none-noted-requires
     same-length-2
     returns-2
-    mul-wipe
-    mul-wipe-2
-    wipe-requires
+    mul-clear
+    mul-clear-2
+    clear-requires
     loop-less
     loop-again
     same-length-3

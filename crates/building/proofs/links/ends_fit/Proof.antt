@@ -1,37 +1,24 @@
 -- `building::links::ends_fit` meets its contract: what is left to look at gives the answer.
 -- Assumes nothing.
 use Prim.Native.Nat.{_-_, _≤_}
-use mathlib.Core.List.{map}
 use mathlib.Core.Path.{_≡_, sym, ap, _∙_}
 use native.Mathlib.Omega.{arith}
 use borrow.Author.Needs.{needs}
 use borrow.Author.Tests.{not-true, not-false}
-use lib.ListN.{take}
-use Rattle.state.specs.Layout.{forestIn, linkIn}
+use Rattle.state.specs.Layout.{forestIn, heldLinks}
 use Rattle.state.specs.Test.{endsFit}
 use Rattle.building.specs.Laws.Check.{left, left-whole, ends-more, ends-off, ends-all}
 use Rattle.building.proofs.links.ends_fit.Statement.{statement}
 use Rattle.building.proofs.links.ends_fit.Tie as tie
-use Rattle.building.proofs.links.ends_fit.Reads as reads
-use Rattle.building.proofs.links.ends_fit.Lts as lts
-use Rattle.building.proofs.links.link_fits.Reads as link-fits-reads
-use Rattle.building.proofs.words.high_end.Reads as high-end-reads
-use Rattle.building.proofs.words.low_end.Reads as low-end-reads
 
 abbrev Inv-loop : tie.InvT-loop
-Inv-loop frag held n count i₀ i = (i ≤ count) × (endsFit n (forestIn n frag) (left held count i) ≡ endsFit n (forestIn n frag) (map linkIn (take count held)))
+Inv-loop frag held n count i₀ i = (i ≤ count) × (endsFit n (forestIn n frag) (left held count i) ≡ endsFit n (forestIn n frag) (heldLinks count held))
 
 abbrev μ-loop : tie.MeasureT-loop
 μ-loop frag held n count i₀ i = count - i
 
 loop-holds : tie.Need-loop-holds Inv-loop μ-loop
 loop-holds c = let a = c .before .before .args in (omega arith, ap (λ l. endsFit (a .n) (forestIn (a .n) (a .frag .now)) l) (left-whole (a .held .now) (a .count)))
-
-low-end-requires : tie.Need-low-end-requires Inv-loop μ-loop
-low-end-requires c κs = omega (arith, c .before .before .before .before .pre .1)
-
-high-end-requires : tie.Need-high-end-requires Inv-loop μ-loop
-high-end-requires c κs = omega (arith, c .before .before .before .before .before .pre .1)
 
 link-fits-requires : tie.Need-link-fits-requires Inv-loop μ-loop
 link-fits-requires c κs = c .before .before .before .before .before .before .pre .0
@@ -56,8 +43,8 @@ ends-fit-spec =
     Inv-loop
     μ-loop
     loop-holds
-    low-end-requires
-    high-end-requires
+    (λ c κs. search needs)
+    (λ c κs. search needs)
     link-fits-requires
     returns
     (λ c. search needs)

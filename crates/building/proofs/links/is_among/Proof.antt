@@ -8,11 +8,6 @@ use Rattle.rules.specs.Links.{linked}
 use Rattle.building.specs.Laws.Check.{left, among-more, among-hit, among-none}
 use Rattle.building.proofs.links.is_among.Statement.{statement}
 use Rattle.building.proofs.links.is_among.Tie as tie
-use Rattle.building.proofs.links.is_among.Reads as reads
-use Rattle.building.proofs.links.is_among.Lts as lts
-use Rattle.building.proofs.links.is_same.Reads as is-same-reads
-use Rattle.building.proofs.words.high_end.Reads as high-end-reads
-use Rattle.building.proofs.words.low_end.Reads as low-end-reads
 
 abbrev Inv-loop : tie.InvT-loop
 Inv-loop held from to a b i₀ i = (from ≤ i) × (i ≤ to) × (linked (left held to i) a b ≡ linked (left held to from) a b)
@@ -22,12 +17,6 @@ abbrev μ-loop : tie.MeasureT-loop
 
 loop-holds : tie.Need-loop-holds Inv-loop μ-loop
 loop-holds c = (omega arith, omega arith, refl)
-
-low-end-requires : tie.Need-low-end-requires Inv-loop μ-loop
-low-end-requires c κs = omega (arith, c .before .before .before .pre .1)
-
-high-end-requires : tie.Need-high-end-requires Inv-loop μ-loop
-high-end-requires c κs = omega (arith, c .before .before .before .before .pre .1)
 
 returns : tie.Need-returns Inv-loop μ-loop
 returns c =
@@ -49,8 +38,8 @@ is-among-spec =
     Inv-loop
     μ-loop
     loop-holds
-    low-end-requires
-    high-end-requires
+    (λ c κs. search needs)
+    (λ c κs. search needs)
     (λ c κs. search needs)
     returns
     (λ c. search needs)

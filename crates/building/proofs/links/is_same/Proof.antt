@@ -4,8 +4,6 @@ use native.Mathlib.Omega.{arith}
 use Rattle.building.specs.Laws.Check.{same-straight, same-turned, same-not}
 use Rattle.building.proofs.links.is_same.Statement.{statement}
 use Rattle.building.proofs.links.is_same.Tie as tie
-use Rattle.building.proofs.links.is_same.Reads as reads
-use Rattle.building.proofs.links.is_same.Lts as lts
 
 returns : tie.Need-returns
 returns c = same-straight _ _ _ _ (omega arith)

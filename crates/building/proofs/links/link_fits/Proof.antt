@@ -3,12 +3,8 @@
 use native.Mathlib.Omega.{arith}
 use borrow.Author.Needs.{needs}
 use Rattle.building.specs.Laws.Check.{link-turned, link-far, link-placed, link-loose}
-use borrow.Author.Needs.{needs}
 use Rattle.building.proofs.links.link_fits.Statement.{statement}
 use Rattle.building.proofs.links.link_fits.Tie as tie
-use Rattle.building.proofs.links.link_fits.Reads as reads
-use Rattle.building.proofs.links.link_fits.Lts as lts
-use Rattle.building.proofs.tables.rank_at.Reads as rank-at-reads
 
 returns : tie.Need-returns
 returns c = link-turned _ _ _ _ (omega arith)

@@ -5,12 +5,8 @@ use native.Mathlib.Omega.{arith}
 use native.Mathlib.Nat.{mul-le-mul}
 use borrow.Author.Needs.{needs}
 use Rattle.building.specs.Laws.Check.{piece-other, piece-own}
-use borrow.Author.Needs.{needs}
 use Rattle.building.proofs.links.piece_fits.Statement.{statement}
 use Rattle.building.proofs.links.piece_fits.Tie as tie
-use Rattle.building.proofs.links.piece_fits.Reads as reads
-use Rattle.building.proofs.links.piece_fits.Lts as lts
-use Rattle.building.proofs.tables.wide.Reads as wide-reads
 
 returns : tie.Need-returns
 returns c = piece-other _ _ _ _ (c .before .before .before .pre .in-range) (c .if1 .taken)

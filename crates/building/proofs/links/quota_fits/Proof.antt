@@ -8,9 +8,6 @@ use borrow.Author.Tests.{not-true, not-false}
 use Rattle.building.specs.Laws.Check.{Below, quota-none, quota-more, quota-off, quota-all}
 use Rattle.building.proofs.links.quota_fits.Statement.{statement}
 use Rattle.building.proofs.links.quota_fits.Tie as tie
-use Rattle.building.proofs.links.quota_fits.Reads as reads
-use Rattle.building.proofs.links.quota_fits.Lts as lts
-use Rattle.building.proofs.links.piece_fits.Reads as piece-fits-reads
 
 abbrev Inv-loop : tie.InvT-loop
 Inv-loop frag n k p₀ p = (p ≤ n) × Below n k frag p

@@ -8,12 +8,12 @@ use Rattle.building.proofs.noted.note_anew.Tie as tie
 note-links-requires : tie.Need-note-links-requires
 note-links-requires c κs =
     let p = c .before .before .before .before .before .before .before .before .before .pre in
-    (cleared-fresh (c .before .before .before .before .before .before .before .before .before .args .frag .now) (p .long) (c .before .before .before .before .wipe .ensures) (p .some) (p .few-fragments), c .before .block-end .ensures)
+    (cleared-fresh (c .before .before .before .before .before .before .before .before .before .args .frag .now) (p .long) (c .before .before .before .before .clear .ensures) (p .some) (p .few-fragments), c .before .block-end .ensures)
 
 returns : tie.Need-returns
 returns c =
     let m = c .before .before .set-flags .ensures in
-    let cleared = cleared-apart (c .before .before .before .before .before .before .before .before .before .before .before .before .before .before .before .before .args .frag .now) (c .before .before .before .before .before .before .before .before .before .before .before .before .before .before .before .before .pre .long) (c .before .before .before .before .before .before .before .before .before .before .before .wipe .ensures) in
+    let cleared = cleared-apart (c .before .before .before .before .before .before .before .before .before .before .before .before .before .before .before .before .args .frag .now) (c .before .before .before .before .before .before .before .before .before .before .before .before .before .before .before .before .pre .long) (c .before .before .before .before .before .before .before .before .before .before .before .clear .ensures) in
     (m .0, apart-then cleared (apart-then (c .before .before .before .before .before .before .note-links .ensures .1) (m .1)))
 
 pub note-anew-spec : {M : Type 1} → statement M

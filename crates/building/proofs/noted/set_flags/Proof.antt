@@ -1,12 +1,10 @@
 -- `building::noted::set_flags` meets its contract: so many of the held links are told.
 -- Assumes nothing.
 use Prim.Native.Nat.{_-_, _≤_}
-use mathlib.Core.List.{map}
 use mathlib.Core.Path.{_≡_}
 use native.Mathlib.Omega.{arith}
 use borrow.Author.Needs.{needs}
-use lib.ListN.{take}
-use Rattle.state.specs.Layout.{linkIn}
+use Rattle.state.specs.Layout.{heldLinks}
 use Rattle.building.specs.Noted.{Noted, Apart}
 use Rattle.building.specs.Laws.Gather.{links-more}
 use Rattle.building.specs.Laws.Noted.{apart-none, apart-then, held-small}
@@ -14,7 +12,7 @@ use Rattle.building.proofs.noted.set_flags.Statement.{statement}
 use Rattle.building.proofs.noted.set_flags.Tie as tie
 
 abbrev Inv-loop : tie.InvT-loop
-Inv-loop frag₀ held n count i₀ frag i = (i ≤ count) × Noted n (map linkIn (take i held)) frag × Apart n frag₀ frag
+Inv-loop frag₀ held n count i₀ frag i = (i ≤ count) × Noted n (heldLinks i held) frag × Apart n frag₀ frag
 
 abbrev μ-loop : tie.MeasureT-loop
 μ-loop frag₀ held n count i₀ frag i = count - i

@@ -5,8 +5,6 @@ use Rattle.building.specs.Laws.Pieces.{counted}
 use borrow.Author.Needs.{needs}
 use Rattle.building.proofs.pieces.count_one.Statement.{statement}
 use Rattle.building.proofs.pieces.count_one.Tie as tie
-use Rattle.building.proofs.pieces.count_one.Reads as reads
-use Rattle.building.proofs.pieces.count_one.Lts as lts
 
 returns : tie.Need-returns
 unfolding counted

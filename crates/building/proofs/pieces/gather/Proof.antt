@@ -8,11 +8,6 @@ use Rattle.building.specs.Pieces.{Gathers}
 use Rattle.building.specs.Laws.Gather.{gathers-none, gather-joinable, gathers-more}
 use Rattle.building.proofs.pieces.gather.Statement.{statement}
 use Rattle.building.proofs.pieces.gather.Tie as tie
-use Rattle.building.proofs.pieces.gather.Reads as reads
-use Rattle.building.proofs.pieces.gather.Lts as lts
-use Rattle.building.proofs.pieces.join.Reads as join-reads
-use Rattle.building.proofs.words.high_end.Reads as high-end-reads
-use Rattle.building.proofs.words.low_end.Reads as low-end-reads
 
 abbrev Inv-loop : tie.InvT-loop
 Inv-loop frag₀ held n count i₀ frag i = (i ≤ count) × Gathers n frag₀ held i frag
@@ -22,12 +17,6 @@ abbrev μ-loop : tie.MeasureT-loop
 
 loop-holds : tie.Need-loop-holds Inv-loop μ-loop
 loop-holds c = (omega arith, gathers-none (c .before .before .pre))
-
-low-end-requires : tie.Need-low-end-requires Inv-loop μ-loop
-low-end-requires c κs = omega (arith, c .before .before .before .before .pre .there)
-
-high-end-requires : tie.Need-high-end-requires Inv-loop μ-loop
-high-end-requires c κs = omega (arith, c .before .before .before .before .before .pre .there)
 
 join-requires : tie.Need-join-requires Inv-loop μ-loop
 join-requires c κs = gather-joinable (c .before .before .before .before .before .before .before .pre) (c .before .before .before .before .loop .i) (omega arith) (c .before .before .before .before .loop .inv .1) _ _ (c .before .before .low-end .ensures) (c .before .high-end .ensures)
@@ -53,8 +42,8 @@ gather-spec =
     Inv-loop
     μ-loop
     loop-holds
-    low-end-requires
-    high-end-requires
+    (λ c κs. search needs)
+    (λ c κs. search needs)
     join-requires
     (λ c. search needs)
     (λ c. search needs)

@@ -6,9 +6,6 @@ use Rattle.building.specs.Laws.Pieces.{united, unite-second}
 use borrow.Author.Needs.{needs}
 use Rattle.building.proofs.pieces.unite.Statement.{statement}
 use Rattle.building.proofs.pieces.unite.Tie as tie
-use Rattle.building.proofs.pieces.unite.Reads as reads
-use Rattle.building.proofs.pieces.unite.Lts as lts
-use Rattle.building.proofs.pieces.grow.Reads as grow-reads
 
 grow-requires-2 : tie.Need-grow-requires-2
 grow-requires-2 c κs = unite-second (c .before .before .before .before .before .before .pre) _ (c .before .before .before .grow .ensures)

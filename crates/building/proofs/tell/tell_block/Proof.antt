@@ -1,32 +1,28 @@
--- `building::tell::tell_block` meets its contract: the pieces are gathered, held links noted, the links told, and scratch is cleared.
+-- `building::tell::tell_block` meets its contract: held links are noted, the links told, and scratch is cleared.
 -- Assumes nothing.
-use Rattle.building.specs.Laws.Telling.{gatherable, unnoted, noted-telling, told-settles}
+use Rattle.building.specs.Laws.Telling.{unnoted, noted-telling, told-settles}
 use borrow.Author.Needs.{needs}
 use Rattle.building.proofs.tell.tell_block.Statement.{statement}
 use Rattle.building.proofs.tell.tell_block.Tie as tie
 
-gather-requires : tie.Need-gather-requires
-gather-requires c κs = gatherable (c .before .before .before .before .before .pre .0)
-
 note-all-requires : tie.Need-note-all-requires
-note-all-requires c κs = unnoted (c .before .before .before .before .before .before .before .before .before .before .pre .0) _ (c .before .before .before .before .gather .ensures)
+note-all-requires c κs = let p = c .before .before .before .before .before .pre .0 in unnoted (p .tellable) _ (p .gathers)
 
 tell-links-requires : tie.Need-tell-links-requires
 tell-links-requires c κs =
-    let p = c .before .before .before .before .before .before .before .before .before .before .before .before .before .before .before .pre in
+    let p = c .before .before .before .before .before .before .before .before .before .before .pre in
     let N = c .before .before .before .before .note-all .ensures in
-    (noted-telling (p .0) _ (c .before .before .before .before .before .before .before .before .before .gather .ensures) _ (N .0) (N .1), p .1)
+    (noted-telling (p .0 .tellable) _ (p .0 .gathers) _ (N .0) (N .1), p .1)
 
 returns : tie.Need-returns
 returns c =
     let N = c .before .before .before .before .before .before .before .before .before .before .before .before .before .note-all .ensures in
-    told-settles (c .before .before .before .before .before .before .before .before .before .before .before .before .before .before .before .before .before .before .before .before .before .before .before .before .pre .0) _ (c .before .before .before .before .before .before .before .before .before .before .before .before .before .before .before .before .before .before .gather .ensures) _ (N .0) (N .1) _ _ (c .before .before .before .before .before .before .before .before .tell-links .ensures) _ (c .before .before .wipe .ensures)
+    λ f W G. told-settles W _ G _ (N .0) (N .1) _ _ (c .before .before .before .before .before .before .before .before .tell-links .ensures) _ (c .before .before .clear .ensures)
 
 pub tell-block-spec : {M : Type 1} → statement M
 tell-block-spec =
     tie.close
     (tie.spec
-    gather-requires
     note-all-requires
     tell-links-requires
     (λ c. search needs)

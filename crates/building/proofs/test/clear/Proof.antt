@@ -3,13 +3,8 @@
 use native.Mathlib.Omega.{arith}
 use borrow.Author.Needs.{needs}
 use Rattle.state.specs.Laws.Tests.{clear-not, clear-so}
-use borrow.Author.Needs.{needs}
 use Rattle.building.proofs.test.clear.Statement.{statement}
 use Rattle.building.proofs.test.clear.Tie as tie
-use Rattle.building.proofs.test.clear.Reads as reads
-use Rattle.building.proofs.test.clear.Lts as lts
-use Rattle.building.proofs.tables.mark_at.Reads as mark-at-reads
-use Rattle.building.proofs.tables.note_at.Reads as note-at-reads
 
 returns : tie.Need-returns
 returns c = clear-not _ _ _ (c .before .note-at .ensures .says) (omega arith)

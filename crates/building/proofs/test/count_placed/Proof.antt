@@ -11,9 +11,6 @@ use Rattle.state.specs.Layout.{forestIn}
 use Rattle.building.specs.Laws.Check.{placed-none, placed-more, placed-same}
 use Rattle.building.proofs.test.count_placed.Statement.{statement}
 use Rattle.building.proofs.test.count_placed.Tie as tie
-use Rattle.building.proofs.test.count_placed.Reads as reads
-use Rattle.building.proofs.test.count_placed.Lts as lts
-use Rattle.building.proofs.tables.rank_at.Reads as rank-at-reads
 
 abbrev Inv-loop : tie.InvT-loop
 Inv-loop frag n sum₀ v₀ sum v = (v ≤ n) × (sum ≤ v) × (sum ≡ count (placed (forestIn n frag)) v)

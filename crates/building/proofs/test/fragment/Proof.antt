@@ -5,15 +5,8 @@ use native.Mathlib.Omega.{arith}
 use borrow.Author.Needs.{needs}
 use borrow.Author.Tests.{not-true, not-false}
 use Rattle.building.specs.Laws.Check.{fits-loose, fits-fallen, fits-placed}
-use borrow.Author.Needs.{needs}
 use Rattle.building.proofs.test.fragment.Statement.{statement}
 use Rattle.building.proofs.test.fragment.Tie as tie
-use Rattle.building.proofs.test.fragment.Reads as reads
-use Rattle.building.proofs.test.fragment.Lts as lts
-use Rattle.building.proofs.tables.rank_at.Reads as rank-at-reads
-use Rattle.building.proofs.test.clear.Reads as clear-reads
-use Rattle.building.proofs.test.stands.Reads as stands-reads
-use Rattle.building.proofs.test.waits.Reads as waits-reads
 
 returns : tie.Need-returns
 returns c = fits-loose _ _ _ _ (c .before .before .rank-at .ensures .says) (omega arith) _ (c .waits .ensures)

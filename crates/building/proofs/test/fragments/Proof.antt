@@ -12,9 +12,6 @@ use Rattle.state.specs.Laws.Tests.{every-none, every-more, every-fails}
 use Rattle.building.specs.Check.{fragmentFits}
 use Rattle.building.proofs.test.fragments.Statement.{statement}
 use Rattle.building.proofs.test.fragments.Tie as tie
-use Rattle.building.proofs.test.fragments.Reads as reads
-use Rattle.building.proofs.test.fragments.Lts as lts
-use Rattle.building.proofs.test.fragment.Reads as fragment-reads
 
 abbrev Inv-loop : tie.InvT-loop
 Inv-loop frag n v₀ v = (v ≤ n) × (every (fragmentFits n (forestIn n frag)) v ≡ true)

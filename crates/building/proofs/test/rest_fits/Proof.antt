@@ -1,19 +1,11 @@
 -- `building::test::rest_fits` meets its contract: one law for each answer.
 -- Assumes nothing.
 use mathlib.Core.Path.{sym, _∙_}
-use native.Mathlib.Omega.{arith}
 use borrow.Author.Tests.{not-true, not-false}
 use borrow.Author.Needs.{needs}
 use Rattle.building.specs.Laws.Test.{rest-state, rest-held, rest-fragment, rest-unused, rest-scratch}
-use borrow.Author.Needs.{needs}
 use Rattle.building.proofs.test.rest_fits.Statement.{statement}
 use Rattle.building.proofs.test.rest_fits.Tie as tie
-use Rattle.building.proofs.test.rest_fits.Reads as reads
-use Rattle.building.proofs.test.rest_fits.Lts as lts
-use Rattle.building.proofs.test.count_placed.Reads as count-placed-reads
-use Rattle.building.proofs.test.fragments.Reads as fragments-reads
-use Rattle.building.proofs.test.state_fits.Reads as state-fits-reads
-use Rattle.building.proofs.test.zeros.Reads as zeros-reads
 
 returns : tie.Need-returns
 returns c = rest-state _ _ _ _ (c .before .before .count-placed .ensures) (sym (not-true _ (c .if1 .taken)) ∙ c .before .state-fits .ensures)

@@ -3,13 +3,8 @@
 use native.Mathlib.Omega.{arith}
 use borrow.Author.Needs.{needs}
 use Rattle.state.specs.Laws.Tests.{stands-root, stands-far, stands-loose, stands-under}
-use borrow.Author.Needs.{needs}
 use Rattle.building.proofs.test.stands.Statement.{statement}
 use Rattle.building.proofs.test.stands.Tie as tie
-use Rattle.building.proofs.test.stands.Reads as reads
-use Rattle.building.proofs.test.stands.Lts as lts
-use Rattle.building.proofs.tables.parent_at.Reads as parent-at-reads
-use Rattle.building.proofs.tables.rank_at.Reads as rank-at-reads
 
 returns : tie.Need-returns
 returns c = stands-root _ _ _ _ _ (c .before .before .parent-at .ensures .says) (c .before .rank-at .ensures .says) (omega arith)

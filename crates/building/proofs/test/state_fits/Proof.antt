@@ -5,11 +5,8 @@ use native.Mathlib.Omega.{arith}
 use native.Mathlib.Nat.{mul-le-mul}
 use borrow.Author.Needs.{needs}
 use Rattle.building.specs.Laws.Check.{state-done, state-closed, state-many, state-full, state-fits}
-use borrow.Author.Needs.{needs}
 use Rattle.building.proofs.test.state_fits.Statement.{statement}
 use Rattle.building.proofs.test.state_fits.Tie as tie
-use Rattle.building.proofs.test.state_fits.Reads as reads
-use Rattle.building.proofs.test.state_fits.Lts as lts
 
 returns : tie.Need-returns
 returns c = state-done _ _ (omega arith)

@@ -1,19 +1,15 @@
 -- `building::test::test` meets its contract: the rest, then the held links.
 -- Assumes nothing.
-use mathlib.Core.Path.{refl, sym, _∙_}
+use mathlib.Core.Path.{sym, _∙_}
+use Rattle.base.specs.Pick.{pick-false}
 use borrow.Author.Tests.{not-true, not-false}
 use borrow.Author.Needs.{needs}
 use Rattle.building.specs.Laws.Test.{rest-lookable, sound-not, sound-links}
-use borrow.Author.Needs.{needs}
 use Rattle.building.proofs.test.test.Statement.{statement}
 use Rattle.building.proofs.test.test.Tie as tie
-use Rattle.building.proofs.test.test.Reads as reads
-use Rattle.building.proofs.test.test.Lts as lts
-use Rattle.building.proofs.links.links_fit.Reads as links-fit-reads
-use Rattle.building.proofs.test.rest_fits.Reads as rest-fits-reads
 
 returns : tie.Need-returns
-returns c = (sound-not _ _ _ (c .before .before .before .before .before .pre .1) (sym (not-true _ (c .if1 .taken)) ∙ c .before .rest-fits .ensures), refl)
+returns c = (sound-not _ _ _ (c .before .before .before .before .before .pre .1) (sym (not-true _ (c .if1 .taken)) ∙ c .before .rest-fits .ensures), sym (pick-false _ _))
 
 links-fit-requires : tie.Need-links-fit-requires
 links-fit-requires c κs = rest-lookable _ _ _ (c .before .before .before .before .before .before .pre .0) (sym (not-false _ (c .before .if1 .left)) ∙ c .before .before .rest-fits .ensures)

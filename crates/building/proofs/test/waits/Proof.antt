@@ -3,15 +3,8 @@
 use native.Mathlib.Omega.{arith}
 use borrow.Author.Needs.{needs}
 use Rattle.building.specs.Laws.Check.{waits-child, waits-marked, waits-silent, waits-far, waits-noted}
-use borrow.Author.Needs.{needs}
 use Rattle.building.proofs.test.waits.Statement.{statement}
 use Rattle.building.proofs.test.waits.Tie as tie
-use Rattle.building.proofs.test.waits.Reads as reads
-use Rattle.building.proofs.test.waits.Lts as lts
-use Rattle.building.proofs.tables.mark_at.Reads as mark-at-reads
-use Rattle.building.proofs.tables.note_at.Reads as note-at-reads
-use Rattle.building.proofs.tables.parent_at.Reads as parent-at-reads
-use Rattle.building.proofs.tables.rank_at.Reads as rank-at-reads
 
 returns : tie.Need-returns
 returns c = waits-child _ _ _ _ (c .before .parent-at .ensures .says) (omega arith)

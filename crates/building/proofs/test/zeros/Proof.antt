@@ -9,8 +9,6 @@ use Rattle.state.specs.Test.{allZero}
 use Rattle.state.specs.Laws.Tests.{zero-none, zero-more, zero-fails}
 use Rattle.building.proofs.test.zeros.Statement.{statement}
 use Rattle.building.proofs.test.zeros.Tie as tie
-use Rattle.building.proofs.test.zeros.Reads as reads
-use Rattle.building.proofs.test.zeros.Lts as lts
 
 abbrev Inv-loop : tie.InvT-loop
 Inv-loop words a e i₀ i = (a ≤ i) × (i ≤ e) × (allZero (take (e - i) (drop i words)) ≡ allZero (take (e - a) (drop a words)))
