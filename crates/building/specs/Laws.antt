@@ -11,4 +11,3 @@ pub mod Noted
 pub mod Telling
 pub mod Take
 pub mod Check
-pub mod Test

@@ -3,24 +3,22 @@ ghost use mathlib.Core.Path.{_≡_};
 ghost use Rattle.state.specs.Test.{isBuilding};
 ghost use Rattle.state.specs.Call.{headRefusal};
 ghost use Rattle.building.specs.Gathered.{gatheredIn};
-use crate::test::test;
+use crate::links::links_fit;
 use state::State;
-use state::bounds;
 use state::is_building;
+use tables::head;
 
 // The refusal that is due. Where it is 0 the pieces stand in sections 4 to 6, else the fragment table is as it was found.
 pub fn gathered(s: State, frag: &mut [u32], held: &[u32]) -> u32
     ensures { λ r. ⌜ (r ≡ headRefusal isBuilding s (now (frag .entry)) (now (held .entry))) × (now (frag .exit) ≡ gatheredIn s (now (frag .entry)) (now (held .entry))) ⌝ }
 {
-    let refusal = bounds(s.n, s.k, frag.len(), held.len());
+    let stage = s.stage;
+    let allowed = is_building(stage);
+    let refusal = head(s, allowed, frag, held);
     if refusal != 0 {
         return refusal;
     }
-    let stage = s.stage;
-    if !is_building(stage) {
-        return 6;
-    }
-    if !test(s, frag, held) {
+    if !links_fit(frag, held, s.n, s.k, s.held) {
         return 11;
     }
     0

@@ -7,7 +7,6 @@ mod noted;
 mod pieces;
 mod taking;
 mod tell;
-mod test;
 
 pub use gathering::gathered;
 pub use pieces::POINTER;

@@ -7,12 +7,12 @@ ghost use Rattle.rules.specs.Links.{between, linked};
 ghost use Rattle.state.specs.Layout.{forestIn, heldLinks};
 ghost use Rattle.state.specs.Test.{endsFit, quotaFits};
 ghost use Rattle.state.specs.Call.{roomMost};
-ghost use Rattle.state.specs.Laws.Tests.{Room};
+ghost use Rattle.tables.specs.Test.{linksFit};
 ghost use Rattle.building.specs.Gathered.{withPieces};
 ghost use Rattle.building.specs.Pieces.{Pointing};
 ghost use Rattle.building.specs.Index.{Open, Indexed};
 ghost use Rattle.building.specs.Batches.{classesMost, classOf, Batchable, Batches, Recalls, Missable, Misses, Comparable, Sifts, Compares};
-ghost use Rattle.building.specs.Check.{linkFits, pieceFits, Tells, linksFit, Lookable, Readable};
+ghost use Rattle.building.specs.Check.{linkFits, pieceFits, Tells, Lookable, Readable};
 use crate::index::look;
 use crate::noted::NOTED;
 use crate::pieces::LINKS;
@@ -29,7 +29,6 @@ use tables::rank_at;
 
 // 'held links join different unplaced fragments'
 fn link_fits(frag: &[u32], n: usize, a: usize, b: usize) -> bool
-    requires { ⌜ Room n (now frag) ⌝ }
     ensures { λ r. ⌜ r ≡ linkFits n (forestIn n (now (frag .entry))) a b ⌝ }
 {
     if b <= a {
@@ -45,7 +44,7 @@ fn link_fits(frag: &[u32], n: usize, a: usize, b: usize) -> bool
 }
 
 fn ends_fit(frag: &[u32], held: &[u32], n: usize, count: usize) -> bool
-    requires { ⌜ Room n (now frag) × (count ≤ length (now held)) ⌝ }
+    requires { ⌜ count ≤ length (now held) ⌝ }
     ensures { λ r. ⌜ r ≡ endsFit n (forestIn n (now (frag .entry))) (heldLinks count (now (held .entry))) ⌝ }
 {
     let mut i = 0;

@@ -1,4 +1,4 @@
--- The answers of the test in Building, fragment by fragment and link by link, and what they come to.
+-- The answers of the test of the held links, link by link and piece by piece, and what they come to.
 -- Assumes nothing.
 use Prim.Native.Nat.{ℕ, suc, pred, _+_, _-_, _*_, _≤_, _<_}
 use mathlib.Core.Path.{_≡_, sym, ap, _∙_}
@@ -11,125 +11,32 @@ use native.Mathlib.Numerals.{add-one}
 use lib.Dec.{eqb, leb}
 use lib.ListN.{length, getD, drop}
 use lib.Seq.{drop-cons}
-use borrow.Author.Tests.{lt-ltb, eq-eqb, ne-eqb}
+use borrow.Author.Tests.{eq-eqb, ne-eqb}
 use Rattle.base.specs.Pick.{tests}
 use Rattle.base.specs.Truth.{true-T}
 use Rattle.rules.specs.Links.{Link, between, linked}
 use Rattle.rules.specs.Search.{count, every}
-use Rattle.rules.specs.Tables.{Tables, parentOf, rank, noteOf, markOf, placed}
-use Rattle.rules.specs.Laws.Search.{count-zero}
-use Rattle.rules.specs.Laws.Split.{bit, count-suc}
+use Rattle.rules.specs.Tables.{Tables, rank, placed}
 use Rattle.rules.specs.Building.{pieces, member, sizeOf, heldIn}
 use Rattle.rules.specs.Laws.Pieces.{label-le}
 use Rattle.state.specs.Layout.{forestIn, heldLinks, heldLink}
-use Rattle.state.specs.Test.{entriesMost, asked, standsAt, clearAt, endsFit, noneTwice, quotaFits}
+use Rattle.state.specs.Test.{asked, endsFit, noneTwice, quotaFits}
 use Rattle.state.specs.Laws.Held.{ends-known}
 use Rattle.state.specs.Laws.Tests.{every-none, every-more, every-fails}
 use Rattle.state.specs.declared.State.{State}
 use Rattle.building.specs.Pieces.{Gatherable}
-use Rattle.building.specs.Check.{waitsAt, fragmentFits, stateFits, linkFits, pieceFits, Tells, linksFit, Lookable}
+use Rattle.tables.specs.Test.{linksFit}
+use Rattle.tables.specs.Laws.Fragment.{placed-so, placed-not}
+use Rattle.tables.specs.Laws.Test.{but-room, but-blank}
+use Rattle.tables.specs.Laws.Head.{Headed, headed-bounds}
+use Rattle.building.specs.Check.{linkFits, pieceFits, Tells, Lookable}
 
--- Whether a fragment is placed, by its word r.
-module _ (t : Tables) (v r : ℕ) (er : r ≡ rank t v) where
-  pub placed-so : (r ≡ 0 → ⊥) → placed t v ≡ true
-  unfolding placed
-  placed-so d = let o : 0 < r = omega arith in rw (← er, lt-ltb 0 r o)
-
-  pub placed-not : r ≡ 0 → placed t v ≡ false
-  unfolding placed
-  placed-not e = rw (← er, e)
-
-  pub placed-is : not (eqb r 0) ≡ placed t v
-  placed-is = elim (ℕ-discrete r 0) [
-    | yes e ↦ rw (eq-eqb r 0 e, placed-not e)
-    | no d ↦ rw (ne-eqb r 0 d, placed-so d)
-  ]
-
-  pub loose-is : eqb r 0 ≡ not (placed t v)
-  loose-is = elim (ℕ-discrete r 0) [
-    | yes e ↦ rw (eq-eqb r 0 e, placed-not e)
-    | no d ↦ rw (ne-eqb r 0 d, placed-so d)
-  ]
-
--- An unplaced fragment, by its words.
-module _ (n : ℕ) (t : Tables) (v p : ℕ) (ep : p ≡ parentOf t v) where
-  pub waits-child : (p ≡ 0 → ⊥) → false ≡ waitsAt n t v
-  unfolding waitsAt
-  waits-child d = rw (← ep) (simp tests)
-
-  module _ (h1 : p ≡ 0) (m : ℕ) (em : m ≡ markOf t v) where
-    pub waits-marked : 1 < m → false ≡ waitsAt n t v
-    unfolding waitsAt
-    waits-marked d = rw (← ep, ← em) (simp tests)
-
-    module _ (h2 : m ≤ 1) (o : ℕ) (eo : o ≡ noteOf t v) where
-      pub waits-silent : o ≡ 0 → true ≡ waitsAt n t v
-      unfolding waitsAt
-      waits-silent e = rw (← ep, ← em, ← eo) (simp tests)
-
-      module _ (h3 : o ≡ 0 → ⊥) where
-        pub waits-far : n < o → false ≡ waitsAt n t v
-        unfolding waitsAt
-        waits-far d = let g : n ≤ pred o = omega arith in rw (← ep, ← em, ← eo) (simp tests)
-
-        pub waits-noted : o ≤ n → (q r : ℕ) → q ≡ pred o → r ≡ rank t q → not (eqb r 0) ≡ waitsAt n t v
-        unfolding waitsAt
-        waits-noted d q r eq er =
-            let g : pred o < n = omega arith in
-            rw (placed-is t q r er, eq, ← ep, ← em, ← eo) (simp tests)
-
--- One fragment.
-module _ (n : ℕ) (t : Tables) (v r : ℕ) (er : r ≡ rank t v) where
-  pub fits-loose : r ≡ 0 → (b : Bool) → b ≡ waitsAt n t v → b ≡ fragmentFits n t v
-  unfolding fragmentFits
-  fits-loose e b w = rw (placed-not t v r er e, w) (simp tests)
-
-  module _ (d : r ≡ 0 → ⊥) where
-    pub fits-fallen : false ≡ standsAt n t v → false ≡ fragmentFits n t v
-    unfolding fragmentFits
-    fits-fallen w = rw (placed-so t v r er d, ← w) (simp tests)
-
-    pub fits-placed : true ≡ standsAt n t v → (b : Bool) → b ≡ clearAt t v → b ≡ fragmentFits n t v
-    unfolding fragmentFits
-    fits-placed w b q = rw (placed-so t v r er d, ← w, q) (simp tests)
-
--- Counting those placed.
-pub placed-none : (t : Tables) → 0 ≡ count (placed t) 0
-placed-none t = sym (count-zero (placed t))
-
-module _ (t : Tables) (v r m : ℕ) (er : r ≡ rank t v) (em : m ≡ count (placed t) v) where
-  pub placed-more : (r ≡ 0 → ⊥) → m + 1 ≡ count (placed t) (v + 1)
-  unfolding bit
-  placed-more d = rw (add-one v) (omega (arith, rw (placed-so t v r er d) at (count-suc (placed t) v)))
-
-  pub placed-same : r ≡ 0 → m ≡ count (placed t) (v + 1)
-  unfolding bit
-  placed-same e = rw (add-one v) (omega (arith, rw (placed-not t v r er e) at (count-suc (placed t) v)))
-
--- The state.
-module _ (s : State) (m : ℕ) where
-  pub state-done : s .n ≤ m → false ≡ stateFits s m
-  unfolding stateFits
-  state-done p = simp tests
-
-  module _ (h1 : m < s .n) where
-    pub state-closed : m + 1 < s .passes → false ≡ stateFits s m
-    unfolding stateFits
-    state-closed p = let q : suc m < s .passes = omega arith in simp tests
-
-    module _ (h2 : s .passes ≤ m + 1) where
-      pub state-many : entriesMost < s .entries → false ≡ stateFits s m
-      unfolding stateFits
-      state-many p = let q : s .passes ≤ suc m = omega arith in simp tests
-
-      module _ (h3 : s .entries ≤ entriesMost) where
-        pub state-full : s .k * s .n < s .held → false ≡ stateFits s m
-        unfolding stateFits
-        state-full p = let q : s .passes ≤ suc m = omega arith in simp tests
-
-        pub state-fits : s .held ≤ s .k * s .n → not (s .crossed) ≡ stateFits s m
-        unfolding stateFits
-        state-fits p = let q : s .passes ≤ suc m = omega arith in simp tests
+-- Whether a fragment is unplaced, by its word r.
+loose-is : (t : Tables) (v r : ℕ) (er : r ≡ rank t v) → eqb r 0 ≡ not (placed t v)
+loose-is t v r er = elim (ℕ-discrete r 0) [
+  | yes e ↦ rw (eq-eqb r 0 e, placed-not t v r er e)
+  | no d ↦ rw (ne-eqb r 0 d, placed-so t v r er d)
+]
 
 -- A held link's ends.
 module _ (n : ℕ) (t : Tables) (a b : ℕ) where
@@ -271,6 +178,21 @@ module _ (n k : ℕ) (t : Tables) (l : List Link) where
     pub links-quota : true ≡ noneTwice l → (b : Bool) → b ≡ quotaFits n k l → b ≡ linksFit n k t l
     unfolding linksFit
     links-quota e b q = rw (← h1, ← e) q
+
+-- Where no refusal is due before them the held links can be looked at.
+pub headed-lookable : {allowed : Bool} {s : State} {f h : List ℕ} → Headed allowed s f h → Lookable (s .n) (s .k) (s .held) f h
+headed-lookable {s = s} {f = f} {h = h} P =
+    let B = headed-bounds P in
+    let few = but-room s f h (P .but-links) in
+    record {
+      few-fragments = B .fragments;
+      some-room = B .some-room;
+      room = B .room;
+      long = B .frag-long;
+      blank = but-blank s f h (P .but-links);
+      few = few;
+      there = omega (arith, B .held-long);
+    }
 
 -- Where their ends fit they can be gathered.
 pub links-gatherable : {n k count : ℕ} {f h : List ℕ} → Lookable n k count f h → true ≡ endsFit n (forestIn n f) (heldLinks count h) → Gatherable n f h count

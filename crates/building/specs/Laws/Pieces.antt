@@ -11,6 +11,7 @@ use lib.Seq.{getD-set-same, getD-set-other, getD-take, getD-drop, take-set-le, d
 use Rattle.rules.specs.Links.{Link}
 use Rattle.rules.specs.Building.{pieces}
 use Rattle.state.specs.Layout.{words, stored}
+use Rattle.state.specs.Call.{fragmentsMost}
 use Rattle.building.specs.Pieces.{Pointing, Gathered, Kept, Finds}
 
 -- One more link counted in the piece of p.
@@ -18,7 +19,7 @@ unfoldable pub counted : ℕ → ℕ → List ℕ → List ℕ
 counted n p f = set f (6 * n + p) (getD f (6 * n + p) 0 + 1)
 
 pub record Countable (n p : ℕ) (f : List ℕ) : Type 0 where
-  pub long : 16 * n ≤ length f
+  pub long : words * n ≤ length f
   pub in-range : p < n
   pub fits : getD f (6 * n + p) 0 + 1 < 4294967296
 
@@ -36,8 +37,8 @@ unfoldable pub united : ℕ → ℕ → ℕ → List ℕ → List ℕ
 united n p q f = set (grown (6 * n + p) (6 * n + q) (grown (5 * n + p) (5 * n + q) f)) (4 * n + q) (p + 1)
 
 pub record Unitable (n p q : ℕ) (f : List ℕ) : Type 0 where
-  pub few-fragments : n ≤ 32768
-  pub long : 16 * n ≤ length f
+  pub few-fragments : n ≤ fragmentsMost
+  pub long : words * n ≤ length f
   pub less : p < q
   pub in-range : q < n
   pub size-fits : getD f (5 * n + p) 0 + getD f (5 * n + q) 0 + 1 < 4294967296

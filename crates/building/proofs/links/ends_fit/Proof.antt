@@ -20,18 +20,15 @@ abbrev μ-loop : tie.MeasureT-loop
 loop-holds : tie.Need-loop-holds Inv-loop μ-loop
 loop-holds c = let a = c .before .before .args in (omega arith, ap (λ l. endsFit (a .n) (forestIn (a .n) (a .frag .now)) l) (left-whole (a .held .now) (a .count)))
 
-link-fits-requires : tie.Need-link-fits-requires Inv-loop μ-loop
-link-fits-requires c κs = c .before .before .before .before .before .before .pre .0
-
 returns : tie.Need-returns Inv-loop μ-loop
 returns c =
     let l = c .before .before .before .before .before .loop in
-    ends-off _ _ (l .i) (omega arith) (c .before .before .before .before .before .before .before .before .pre .1) _ _ (c .before .before .before .low-end .ensures) (c .before .before .high-end .ensures) _ _ (sym (not-true _ (c .if1 .taken)) ∙ c .before .link-fits .ensures) ∙ l .inv .1
+    ends-off _ _ (l .i) (omega arith) (c .before .before .before .before .before .before .before .before .pre) _ _ (c .before .before .before .low-end .ensures) (c .before .before .high-end .ensures) _ _ (sym (not-true _ (c .if1 .taken)) ∙ c .before .link-fits .ensures) ∙ l .inv .1
 
 loop-again : tie.Need-loop-again Inv-loop μ-loop
 loop-again c =
     let l = c .before .before .before .before .before .loop in
-    (omega arith, ends-more _ _ (l .i) (omega arith) (c .before .before .before .before .before .before .before .before .pre .1) _ _ (c .before .before .before .low-end .ensures) (c .before .before .high-end .ensures) _ _ (sym (not-false _ (c .if1 .left)) ∙ c .before .link-fits .ensures) ∙ l .inv .1)
+    (omega arith, ends-more _ _ (l .i) (omega arith) (c .before .before .before .before .before .before .before .before .pre) _ _ (c .before .before .before .low-end .ensures) (c .before .before .high-end .ensures) _ _ (sym (not-false _ (c .if1 .left)) ∙ c .before .link-fits .ensures) ∙ l .inv .1)
 
 returns-2 : tie.Need-returns-2 Inv-loop μ-loop
 returns-2 c = let l = c .before .loop in ends-all _ _ (l .i) (omega arith) _ _ ∙ l .inv .1
@@ -45,7 +42,7 @@ ends-fit-spec =
     loop-holds
     (λ c κs. search needs)
     (λ c κs. search needs)
-    link-fits-requires
+    (λ c κs. search needs)
     returns
     (λ c. search needs)
     (λ c. search needs)

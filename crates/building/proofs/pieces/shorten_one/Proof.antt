@@ -1,5 +1,6 @@
 -- `building::pieces::shorten_one` meets its contract: three words are stored.
 -- Assumes nothing.
+use mathlib.Core.Path.{refl}
 use native.Mathlib.Omega.{arith}
 use lib.ListN.{length-set}
 use Rattle.building.specs.Pieces.{shortAt}
@@ -15,7 +16,7 @@ slice-write-frag-3 c = simp length-set (omega arith)
 
 returns : tie.Need-returns
 unfolding shortAt
-returns c = rw (c .further .ensures)
+returns c = rw (c .further .ensures) refl
 
 pub shorten-one-spec : {M : Type 1} → statement M
 shorten-one-spec =
