@@ -8,7 +8,7 @@ ghost use Rattle.state.specs.Layout.{tablesIn};
 ghost use Rattle.state.specs.Told.{askedTold, judgedTold};
 ghost use Rattle.lines.specs.Report.{fragmentAt, soleAt, solesFrom, linesTo, reportLines, reportCall};
 ghost use Rattle.text.specs.Put.{Put, Line, ample};
-ghost use Rattle.lines.specs.Asked.{numberOf, yesOf, Passed, Asking, Parents};
+ghost use Rattle.lines.specs.Laws.Asked.{numberOf, yesOf, Passed, Asking, Parents};
 use numbers::Written;
 use state::Asked;
 use state::Judged;

@@ -14,8 +14,8 @@ use Rattle.state.specs.Take.{takes}
 use Rattle.state.specs.Close.{Ending, endBuilding, endReading, closeIn, closeCall}
 use Rattle.state.specs.Unique.{closed-decided}
 use Rattle.c_words.specs.State.{stateIn, markWord}
-use Rattle.c_words.specs.Answers.{Reply, Ended, reply, ended, begunEnd, openedEnd, takenEnd, closedEnd, askedReply, judgedReply}
-use Rattle.c_calls.specs.Call.{Returned, returned, replyOf, numberOf, nothing, itself, endingWord, shortOr, begunWords, begun, shortRefusal, begins, leftWords, left, onState, closedWords, closed, asks, cClose}
+use Rattle.c_words.specs.Answers.{Reply, Ended, reply, begunEnd, openedEnd, takenEnd, closedEnd, askedReply, judgedReply}
+use Rattle.c_calls.specs.Call.{Returned, returned, replyOf, numberOf, nothing, itself, shortOr, begunWords, begun, shortRefusal, begins, leftWords, left, onState, closedWords, closed, asks, cClose}
 use Rattle.numbers.specs.declared.Refusal.{Refusal}
 use Rattle.state.specs.declared.State.{State}
 use Rattle.state.specs.declared.Stage.the-variants.{Built}

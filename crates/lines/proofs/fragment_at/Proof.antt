@@ -1,7 +1,7 @@
 -- `lines::fragment_at` meets its contract.
 -- Assumes nothing.
 use mathlib.Core.Path.{ap, _∙_}
-use Rattle.lines.specs.Asked.{numberOf, yesOf, fragment-put, piece-given, cut-given}
+use Rattle.lines.specs.Laws.Asked.{numberOf, yesOf, fragment-put, piece-given, cut-given}
 use borrow.Author.Needs.{needs}
 use Rattle.lines.proofs.fragment_at.Statement.{statement}
 use Rattle.lines.proofs.fragment_at.Tie as tie

@@ -4,7 +4,7 @@ use Rattle.state.specs.Layout.{tablesIn}
 use lib.ListN.{length, length-set}
 use mathlib.Core.Path.{_≡_, refl, ap, _∙_}
 use Prim.Native.Nat.{_≤_, _-_}
-use Rattle.lines.specs.Asked.{Parents, numberOf, parents-none, parents-more, parents-end, parent-given}
+use Rattle.lines.specs.Laws.Asked.{Parents, numberOf, parents-none, parents-more, parents-end, parent-given}
 use borrow.Author.Needs.{needs}
 use native.Mathlib.Omega.{arith}
 use Rattle.lines.proofs.parents_of.Statement.{statement}

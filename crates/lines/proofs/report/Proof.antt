@@ -4,7 +4,7 @@ use Rattle.state.specs.Told.{judgedTold}
 use mathlib.Core.List.{[]}
 use mathlib.Core.Bool.{true, false}
 use mathlib.Core.Path.{sym, ap, _∙_}
-use Rattle.lines.specs.Asked.{passed, report-refused}
+use Rattle.lines.specs.Laws.Asked.{passed, report-refused}
 use borrow.Author.Needs.{needs}
 use Rattle.lines.proofs.report.Statement.{statement}
 use Rattle.lines.proofs.report.Tie as tie

@@ -2,7 +2,7 @@
 -- Assumes nothing.
 use borrow.Author.Tests.{not-true, not-false}
 use mathlib.Core.Path.{sym, ap, _∙_}
-use Rattle.lines.specs.Asked.{yesOf, sole-behind, sole-apart, sole-not, sole-put, sole-given}
+use Rattle.lines.specs.Laws.Asked.{yesOf, sole-behind, sole-apart, sole-not, sole-put, sole-given}
 use native.Mathlib.Omega.{arith}
 use borrow.Author.Needs.{needs}
 use Rattle.lines.proofs.sole_at.Statement.{statement}

@@ -5,7 +5,7 @@ use Prim.Native.Nat.{_≤_, _-_, _*_}
 use Rattle.lines.specs.Report.{linesTo, solesFrom}
 use Rattle.text.specs.Put.{Line}
 use Rattle.text.specs.Laws.Put.{put-length}
-use Rattle.lines.specs.Asked.{lines-none, lines-next, lines-put}
+use Rattle.lines.specs.Laws.Asked.{lines-none, lines-next, lines-put}
 use borrow.Author.Needs.{needs}
 use native.Mathlib.Omega.{arith}
 use Rattle.lines.proofs.soles.Statement.{statement}

@@ -1,7 +1,7 @@
 -- `lines::written` meets its contract.
 -- Assumes nothing.
 use mathlib.Core.Path.{refl, _∙_}
-use Rattle.lines.specs.Asked.{report-many, report-stored}
+use Rattle.lines.specs.Laws.Asked.{report-many, report-stored}
 use Rattle.text.specs.Laws.Put.{store-short, store-done}
 use native.Mathlib.Omega.{arith}
 use borrow.Author.Needs.{needs}
