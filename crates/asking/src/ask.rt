@@ -6,9 +6,9 @@ use numbers::Refusal;
 use state::Asked;
 use state::State;
 use state::is_building;
-use tables::head;
 use tables::level_of;
 use tables::parent_at;
+use testing::head;
 
 pub fn parent(s: State, frag: &[u32], held: &[u32], v: usize) -> Asked
     ensures { λ r. ⌜ askedTold r ≡ parentCall s (now (frag .entry)) (now (held .entry)) v ⌝ }

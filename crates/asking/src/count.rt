@@ -8,7 +8,7 @@ ghost use Rattle.rules.specs.Search.{count};
 ghost use Rattle.rules.specs.Tables.{par};
 ghost use Rattle.rules.specs.Reading.{above, lowest, rootOf, reach as reaching, childOf, soleBelow, sole as soleOf, piece as pieceOf};
 ghost use Rattle.state.specs.Layout.{forestIn};
-ghost use Rattle.tables.specs.Whole.{Whole};
+ghost use Rattle.testing.specs.Whole.{Whole};
 use tables::is_above;
 use tables::level_of;
 use tables::note_at;

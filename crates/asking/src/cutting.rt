@@ -4,7 +4,7 @@ ghost use Prim.Native.Nat.{_<_};
 ghost use Rattle.rules.specs.Search.{some};
 ghost use Rattle.rules.specs.Reading.{cut};
 ghost use Rattle.state.specs.Layout.{forestIn};
-ghost use Rattle.tables.specs.Whole.{Whole};
+ghost use Rattle.testing.specs.Whole.{Whole};
 ghost use Rattle.asking.specs.Cut.{Unmarked, Marks, Marked, unmarkedChild};
 use crate::count::children;
 use crate::count::is_child;

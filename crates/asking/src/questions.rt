@@ -12,7 +12,7 @@ use state::Judged;
 use state::State;
 use state::is_building;
 use state::is_read;
-use tables::head;
+use testing::head;
 
 pub fn piece(s: State, frag: &[u32], held: &[u32], v: usize) -> Asked
     ensures { λ r. ⌜ askedTold r ≡ pieceCall s (now (frag .entry)) (now (held .entry)) v ⌝ }

@@ -6,7 +6,7 @@ ghost use Rattle.building.specs.Gathered.{gatheredIn};
 use crate::links::links_fit;
 use state::State;
 use state::is_building;
-use tables::head;
+use testing::head;
 
 // The refusal that is due. Where it is 0 the pieces stand in sections 4 to 6, else the fragment table is as it was found.
 pub fn gathered(s: State, frag: &mut [u32], held: &[u32]) -> u32

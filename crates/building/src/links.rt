@@ -7,7 +7,7 @@ ghost use Rattle.rules.specs.Links.{between, linked};
 ghost use Rattle.state.specs.Layout.{forestIn, heldLinks};
 ghost use Rattle.state.specs.Test.{endsFit, quotaFits};
 ghost use Rattle.state.specs.Call.{roomMost};
-ghost use Rattle.tables.specs.Test.{linksFit};
+ghost use Rattle.testing.specs.Test.{linksFit};
 ghost use Rattle.building.specs.Gathered.{withPieces};
 ghost use Rattle.building.specs.Pieces.{Pointing};
 ghost use Rattle.building.specs.Index.{Open, Indexed};

@@ -3,4 +3,3 @@
 pub mod Pass
 pub mod Tell
 pub mod Take
-pub mod Adopt

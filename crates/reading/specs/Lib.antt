@@ -1,4 +1,3 @@
 pub mod Pass
 pub mod Tell
-pub mod Adopt
 pub mod Laws

@@ -19,9 +19,9 @@ use state::clear;
 use state::is_reading;
 use tables::NOTE;
 use tables::STORED;
-use tables::head;
 use tables::mark_at;
 use tables::parent_of;
+use testing::head;
 
 fn seen_at(frag: &[u32], n: usize, v: usize) -> bool
     ensures { λ r. ⌜ r ≡ seen (forestIn n (now (frag .entry))) v ⌝ }

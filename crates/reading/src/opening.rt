@@ -10,7 +10,7 @@ use state::clear;
 use state::may_open;
 use tables::NOTE;
 use tables::STORED;
-use tables::head;
+use testing::head;
 
 pub fn open_reading(s: State, frag: &mut [u32], held: &mut [u32]) -> Taken
     ensures { λ r. ⌜ takenTold s r (now (frag .exit)) (now (held .exit)) ≡ openCall s (now (frag .entry)) (now (held .entry)) ⌝ }

@@ -10,7 +10,7 @@ use state::State;
 use state::Taken;
 use state::is_reading;
 use state::wide;
-use tables::head;
+use testing::head;
 
 pub fn take(s: State, frag: &mut [u32], held: &mut [u32], block: &[u8]) -> Taken
     ensures { λ r. ⌜ takenTold s r (now (frag .exit)) (now (held .exit)) ≡ takeIn isReading s (now (frag .entry)) (now (held .entry)) (now (block .entry)) ⌝ }

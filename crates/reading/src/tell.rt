@@ -6,7 +6,7 @@ ghost use Prim.Native.Nat.{_<_, _-_, max};
 ghost use Rattle.rules.specs.Reading.{above, hear as hearing};
 ghost use Rattle.lists.specs.List.{blockLinks};
 ghost use Rattle.state.specs.Layout.{forestIn};
-ghost use Rattle.tables.specs.Whole.{Whole};
+ghost use Rattle.testing.specs.Whole.{Whole};
 ghost use Rattle.reading.specs.Tell.{Leaves, Reads, Given, linksOf};
 use lists::Link;
 use state::wide;

@@ -1,8 +1,4 @@
--- Laws about the definitions, and the lemmas that the proofs of the code rest on.
+-- The lemmas that the proofs of the code rest on.
 -- Assumes nothing.
 pub mod Sections
 pub mod Climb
-pub mod Fragment
-pub mod Test
-pub mod Head
-pub mod Whole

@@ -1,3 +1,1 @@
-pub mod Test
-pub mod Whole
 pub mod Laws

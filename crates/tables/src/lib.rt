@@ -1,9 +1,7 @@
-// The words of the tables by what they say: the stored sections, the held links, and the way up the forest; and the head of every call on a state.
+// The words of the tables by what they say: the stored sections, the held links, and the way up the forest.
 mod climb;
 mod links;
-mod refusals;
 mod sections;
-mod test;
 
 pub use climb::forebear;
 pub use climb::is_above;
@@ -13,7 +11,6 @@ pub use climb::root;
 pub use links::RADIX;
 pub use links::high_end;
 pub use links::low_end;
-pub use refusals::head;
 pub use sections::LEVEL;
 pub use sections::MARK;
 pub use sections::NOTE;
@@ -24,4 +21,3 @@ pub use sections::mark_at;
 pub use sections::note_at;
 pub use sections::parent_at;
 pub use sections::rank_at;
-pub use test::count_placed;

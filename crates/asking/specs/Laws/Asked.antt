@@ -20,7 +20,7 @@ use Rattle.state.specs.declared.State.{State}
 use Rattle.state.specs.declared.Stage.{Stage}
 use Rattle.state.specs.declared.Stage.the-variants.{Building, Built, Reading, Read}
 use Rattle.asking.specs.Cut.{Unmarked}
-use Rattle.tables.specs.Laws.Head.{Passed}
+use Rattle.testing.specs.Laws.Head.{Passed}
 
 -- The stages of a question are not Building.
 pub asks-later : (g : Stage) → asks g ≡ true → isBuilding g ≡ false

@@ -18,8 +18,8 @@ use Rattle.rules.specs.Reading.{above, lowest, reach, childOf, soleBelow, sole,
 use Rattle.rules.specs.Laws.Search.{first-passes, first-below}
 use Rattle.rules.specs.Laws.Up.{up-suc, child-lev}
 use Rattle.state.specs.Layout.{forestIn}
-use Rattle.tables.specs.Whole.{Whole}
-use Rattle.tables.specs.Laws.Whole.{levels}
+use Rattle.testing.specs.Whole.{Whole}
+use Rattle.testing.specs.Laws.Whole.{levels}
 
 -- A search from below ends at the first that passes.
 first-found : (p : ℕ → Bool) (n k : ℕ) → k < n → T (p k) → ((j : ℕ) → j < k → T (p j) → ⊥) → k ≡ first p n

@@ -25,9 +25,9 @@ use Rattle.state.specs.Laws.Layout.{tables-frag-same, section-length, section-a
 use Rattle.state.specs.Laws.Lists.{drop-take, zeros-pass, all-none}
 use Rattle.state.specs.Laws.Clear.{wiped-back}
 use Rattle.state.specs.Test.{allZero}
-use Rattle.tables.specs.Whole.{Whole}
+use Rattle.testing.specs.Whole.{Whole}
 use Rattle.asking.specs.Cut.{blank, Unmarked, hits, Outside, Marks, Marked, unmarkedChild}
-use Rattle.tables.specs.Laws.Whole.{levels}
+use Rattle.testing.specs.Laws.Whole.{levels}
 
 pub outside-refl : (n : ℕ) (f : List ℕ) → Outside n f f
 outside-refl n f = record { front = refl; rest = refl; long = refl }

@@ -25,10 +25,10 @@ use Rattle.state.specs.Laws.Held.{ends-known}
 use Rattle.state.specs.Laws.Tests.{every-none, every-more, every-fails}
 use Rattle.state.specs.declared.State.{State}
 use Rattle.building.specs.Pieces.{Gatherable}
-use Rattle.tables.specs.Test.{linksFit}
-use Rattle.tables.specs.Laws.Fragment.{placed-so, placed-not}
-use Rattle.tables.specs.Laws.Test.{but-room, but-blank}
-use Rattle.tables.specs.Laws.Head.{Headed, headed-bounds}
+use Rattle.testing.specs.Test.{linksFit}
+use Rattle.testing.specs.Laws.Fragment.{placed-so, placed-not}
+use Rattle.testing.specs.Laws.Test.{but-room, but-blank}
+use Rattle.testing.specs.Laws.Head.{Headed, headed-bounds}
 use Rattle.building.specs.Check.{linkFits, pieceFits, Tells, Lookable}
 
 -- Whether a fragment is unplaced, by its word r.

@@ -11,42 +11,33 @@ use Rattle.building.proofs.take.Reads as taking-take-reads
 use Rattle.forest.proofs.in_building.Reads as in-building-reads
 use Rattle.reading.proofs.take.Reads as taking-take-reads′
 
--- src/lib.rt:40:8
 in-building-requires : tie.Need-in-building-requires
 in-building-requires c κs = search needs
 
--- src/lib.rt:41:9
 take-requires : tie.Need-take-requires
 take-requires c κs = search needs
 
--- src/lib.rt:43:9
 take-requires-2 : tie.Need-take-requires-2
 take-requires-2 c κs = search needs
 
--- src/lib.rt:36:1
 same-length : tie.Need-same-length
 same-length c = search needs
 
--- src/lib.rt:36:1
 same-length-2 : tie.Need-same-length-2
 same-length-2 c = search needs
 
--- src/lib.rt:36:1
 returns : tie.Need-returns
 returns c =
     let a = c .before .before .before .before .before .before .before .before .before .before .before .before .args in
     let b = c .before .before .before .before .before .before .before .before in
     c .before .before .before .before .take .ensures ∙ take-building (a .s) (a .frag .now) (a .held .now) (a .block .now) (sym (b .in-building .ensures) ∙ c .before .before .before .before .before .before .before .if1 .taken)
 
--- src/lib.rt:36:1
 same-length-3 : tie.Need-same-length-3
 same-length-3 c = search needs
 
--- src/lib.rt:36:1
 same-length-4 : tie.Need-same-length-4
 same-length-4 c = search needs
 
--- src/lib.rt:36:1
 returns-2 : tie.Need-returns-2
 returns-2 c =
     let a = c .before .before .before .before .before .before .before .before .before .before .before .before .args in

@@ -31,7 +31,7 @@ use Rattle.state.specs.declared.Stage.the-variants.{Building, Built, Reading, R
 use Rattle.state.specs.declared.Taken.the-variants.{On, Refused as Untaken}
 use Rattle.state.specs.declared.Closed.{Closed}
 use Rattle.state.specs.declared.Closed.the-variants.{Read as Ended, False, Refused as Unclosed}
-use Rattle.tables.specs.Laws.Head.{Passed}
+use Rattle.testing.specs.Laws.Head.{Passed}
 use Rattle.reading.specs.Pass.{opened, finished, failed}
 
 -- 'whether its parent link was seen'

@@ -25,7 +25,7 @@ use Rattle.state.specs.Laws.Lay.{frag-kept, held-laid}
 use Rattle.state.specs.declared.State.{State}
 use Rattle.state.specs.declared.Taken.the-variants.{On, Refused as Untaken}
 use Rattle.reading.specs.Tell.{crossedIn, Reads, Given, linksOf}
-use Rattle.tables.specs.Laws.Head.{Passed}
+use Rattle.testing.specs.Laws.Head.{Passed}
 use Rattle.reading.specs.Pass.{told}
 
 -- What the scan of a block says of its links.

@@ -17,12 +17,12 @@ use Rattle.rules.specs.Reading.{above, hear, readLink, readLinks}
 use Rattle.rules.specs.Laws.Tables.{SameForest, same-par, same-lev, same-placed, standing-same}
 use Rattle.state.specs.Layout.{stored, tablesIn, forestIn}
 use Rattle.state.specs.Laws.Layout.{section-same, section-length, note-word, store-note, store-mark, store-crossed}
-use Rattle.tables.specs.Whole.{Whole}
+use Rattle.testing.specs.Whole.{Whole}
 use Rattle.lists.specs.List.{fragmentsMost, linksAt, blockLinks, scanLink}
 use Rattle.lists.specs.Laws.Link.{link-accepted, link-read, link-told}
 use Rattle.lists.specs.Laws.Block.{walked, next-given}
 use Rattle.reading.specs.Tell.{passing, crossedIn, Kept, Leaves, Reads, Given, linksOf}
-use Rattle.tables.specs.Laws.Whole.{word-lev}
+use Rattle.testing.specs.Laws.Whole.{word-lev}
 
 pub kept-refl : (n : ℕ) (f : List ℕ) → Kept n f f
 kept-refl n f = record { front = refl; rest = refl; long = refl }

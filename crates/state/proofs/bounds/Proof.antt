@@ -10,31 +10,24 @@ use Rattle.state.proofs.bounds.Tie as tie
 use Rattle.state.proofs.bounds.Reads as reads
 use Rattle.state.proofs.bounds.Lts as lts
 
--- src/lib.rt:44:9
 returns : tie.Need-returns
 returns c = no-fragments _ _ _ _ (omega arith)
 
--- src/lib.rt:47:9
 returns-2 : tie.Need-returns-2
 returns-2 c = many-fragments _ _ _ _ (omega arith) (omega arith)
 
--- src/lib.rt:50:9
 returns-3 : tie.Need-returns-3
 returns-3 c = no-room _ _ _ _ (omega arith) (omega arith) (omega arith)
 
--- src/lib.rt:53:9
 returns-4 : tie.Need-returns-4
 returns-4 c = much-room _ _ _ _ (omega arith) (omega arith) (omega arith) (omega arith)
 
--- src/lib.rt:55:16
 mul-if5 : tie.Need-mul-if5
 mul-if5 c = search needs
 
--- src/lib.rt:56:9
 returns-5 : tie.Need-returns-5
 returns-5 c = short-frag _ _ _ _ (omega arith) (omega arith) (omega arith) (omega arith) (omega arith)
 
--- src/lib.rt:58:16
 mul-if6 : tie.Need-mul-if6
 mul-if6 c =
     let b = c .before .before .before .before .before .args in
@@ -42,11 +35,9 @@ mul-if6 c =
     let n : b .n ≤ 32768 = omega arith in
     omega (arith, mul-le-mul k n)
 
--- src/lib.rt:59:9
 returns-6 : tie.Need-returns-6
 returns-6 c = short-held _ _ _ _ (omega arith) (omega arith) (omega arith) (omega arith) (omega arith) (omega arith)
 
--- src/lib.rt:40:1
 returns-7 : tie.Need-returns-7
 returns-7 c = within-bounds _ _ _ _ (omega arith) (omega arith) (omega arith) (omega arith) (omega arith) (omega arith)
 

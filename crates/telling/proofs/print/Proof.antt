@@ -8,30 +8,24 @@ use Rattle.telling.proofs.print.Reads as reads
 use Rattle.telling.proofs.print.Lts as lts
 use Rattle.io.proofs.write_all.Reads as write-all-reads
 
--- src/lib.rt:190:22
 enum-known-written : tie.Need-enum-known-written
 enum-known-written c = search needs
 
--- src/lib.rt:192:34
 slice-aggregate-write-all : tie.Need-slice-aggregate-write-all
 slice-aggregate-write-all c = sym (length-take-le _ _ (omega arith))
 
--- src/lib.rt:192:17
 write-all-requires : tie.Need-write-all-requires
 write-all-requires c κs = search needs
 
 enum-told : tie.Need-enum-told
 enum-told c = search needs
 
--- src/lib.rt:188:1
 returns : tie.Need-returns
 returns c = search needs
 
--- src/lib.rt:188:1
 returns-2 : tie.Need-returns-2
 returns-2 c = search needs
 
--- src/lib.rt:188:1
 returns-3 : tie.Need-returns-3
 returns-3 c = search needs
 

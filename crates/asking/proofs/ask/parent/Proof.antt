@@ -5,7 +5,7 @@ use mathlib.Core.Path.{ap, _∙_}
 use native.Mathlib.Omega.{arith}
 use Rattle.base.specs.Answer.{gives}
 use Rattle.state.specs.Ask.{asks, parentCall}
-use Rattle.tables.specs.Laws.Head.{head-is}
+use Rattle.testing.specs.Laws.Head.{head-is}
 use Rattle.asking.specs.Laws.Asked.{asks-later, one-refused, one-far, one-answer, same-parentOf}
 use borrow.Author.Needs.{needs}
 use Rattle.asking.proofs.ask.parent.Statement.{statement}

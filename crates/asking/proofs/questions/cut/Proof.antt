@@ -5,8 +5,8 @@ use native.Mathlib.Omega.{arith}
 use Rattle.base.specs.Answer.{gives}
 use Rattle.state.specs.Ask.{cutCall}
 use Rattle.state.specs.Test.{isRead}
-use Rattle.tables.specs.Laws.Head.{head-is, head-passed}
-use Rattle.tables.specs.Laws.Whole.{passed-whole}
+use Rattle.testing.specs.Laws.Head.{head-is, head-passed}
+use Rattle.testing.specs.Laws.Whole.{passed-whole}
 use Rattle.asking.specs.Laws.Asked.{read-later, passed-unmarked, one-refused, one-far, one-answer, same-cut}
 use borrow.Author.Needs.{needs}
 use Rattle.asking.proofs.questions.cut.Statement.{statement}

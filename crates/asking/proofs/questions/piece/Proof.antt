@@ -5,8 +5,8 @@ use mathlib.Core.Path.{ap, _∙_}
 use native.Mathlib.Omega.{arith}
 use Rattle.base.specs.Answer.{gives}
 use Rattle.state.specs.Ask.{asks, pieceCall}
-use Rattle.tables.specs.Laws.Head.{head-is, head-passed}
-use Rattle.tables.specs.Laws.Whole.{passed-whole}
+use Rattle.testing.specs.Laws.Head.{head-is, head-passed}
+use Rattle.testing.specs.Laws.Whole.{passed-whole}
 use Rattle.asking.specs.Laws.Asked.{asks-later, one-refused, one-far, one-answer, same-piece}
 use borrow.Author.Needs.{needs}
 use Rattle.asking.proofs.questions.piece.Statement.{statement}

@@ -5,7 +5,7 @@ use native.Mathlib.Omega.{arith}
 use Rattle.base.specs.Answer.{gives}
 use Rattle.state.specs.Ask.{soleCall}
 use Rattle.state.specs.Test.{isRead}
-use Rattle.tables.specs.Laws.Head.{head-is}
+use Rattle.testing.specs.Laws.Head.{head-is}
 use Rattle.asking.specs.Laws.Asked.{read-later, two-refused, two-first, two-second, two-same, two-answer, same-sole}
 use borrow.Author.Needs.{needs}
 use Rattle.asking.proofs.questions.sole.Statement.{statement}

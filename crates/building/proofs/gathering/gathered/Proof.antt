@@ -4,7 +4,7 @@ use mathlib.Core.Path.{sym, _∙_}
 use native.Mathlib.Omega.{arith}
 use borrow.Author.Tests.{not-true, not-false}
 use borrow.Author.Needs.{needs}
-use Rattle.tables.specs.Laws.Head.{head-known, head-refused, links-unsound, links-sound}
+use Rattle.testing.specs.Laws.Head.{head-known, head-refused, links-unsound, links-sound}
 use Rattle.building.specs.Laws.Check.{headed-lookable}
 use Rattle.building.specs.Laws.Gathered.{gathered-not, gathered-unsound, gathered-sound}
 use Rattle.building.proofs.gathering.gathered.Statement.{statement}

@@ -4,7 +4,7 @@ use mathlib.Core.Path.{sym, _∙_}
 use native.Mathlib.Omega.{arith}
 use borrow.Author.Tests.{not-true, not-false}
 use Rattle.state.specs.Test.{isReading}
-use Rattle.tables.specs.Laws.Head.{head-is, head-passed}
+use Rattle.testing.specs.Laws.Head.{head-is, head-passed}
 use Rattle.reading.specs.Laws.Pass.{reading-later, same-accepted, close-refused, close-read, close-false}
 use borrow.Author.Needs.{needs}
 use Rattle.reading.proofs.closing.close.Statement.{statement}

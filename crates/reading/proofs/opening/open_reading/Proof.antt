@@ -2,7 +2,7 @@
 -- Assumes nothing.
 use native.Mathlib.Omega.{arith}
 use Rattle.state.specs.Close.{opens}
-use Rattle.tables.specs.Laws.Head.{head-is, head-passed}
+use Rattle.testing.specs.Laws.Head.{head-is, head-passed}
 use Rattle.reading.specs.Laws.Pass.{opens-later, open-refused, open-done}
 use borrow.Author.Needs.{needs}
 use Rattle.reading.proofs.opening.open_reading.Statement.{statement}

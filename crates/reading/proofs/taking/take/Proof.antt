@@ -5,8 +5,8 @@ use mathlib.Core.Path.{sym, ap, _∙_}
 use native.Mathlib.Omega.{arith}
 use Rattle.lists.specs.Answers.{toldCount}
 use Rattle.state.specs.Test.{isReading}
-use Rattle.tables.specs.Laws.Head.{head-is, head-passed}
-use Rattle.tables.specs.Laws.Whole.{passed-whole}
+use Rattle.testing.specs.Laws.Head.{head-is, head-passed}
+use Rattle.testing.specs.Laws.Whole.{passed-whole}
 use Rattle.reading.specs.Laws.Pass.{reading-later}
 use Rattle.reading.specs.Laws.Take.{scanned, scanned-few, take-refused, take-bad, take-on}
 use borrow.Author.Needs.{needs}

@@ -1,0 +1,3 @@
+-- The lemmas that the proofs of the code rest on.
+-- Assumes nothing.
+pub mod Adopt

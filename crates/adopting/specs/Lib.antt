@@ -1,0 +1,2 @@
+pub mod Adopt
+pub mod Laws

@@ -1,0 +1,5 @@
+// Adopting a forest made elsewhere.
+mod adopting;
+mod parents;
+
+pub use adopting::adopt;
