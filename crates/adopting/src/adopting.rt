@@ -4,7 +4,7 @@ ghost use mathlib.Core.Path.{_≡_};
 ghost use Rattle.rules.specs.Forest.{depth};
 ghost use Rattle.rules.specs.Adopting.{parentIn};
 ghost use Rattle.state.specs.Adopt.{adoptRefusal, adoptCall};
-ghost use Rattle.state.specs.Told.{begunTold};
+ghost use Rattle.state.specs.Answers.{begunTold};
 ghost use Rattle.state.specs.Laws.Tests.{Room};
 ghost use Rattle.adopting.specs.Adopt.{Rooted, Ranked, Placed};
 use crate::parents::may_adopt;

@@ -1,7 +1,7 @@
 // The questions that one word answers: parent and level.
 ghost use mathlib.Core.Path.{_≡_};
 ghost use Rattle.state.specs.Ask.{parentCall, levelCall};
-ghost use Rattle.state.specs.Told.{askedTold};
+ghost use Rattle.state.specs.Answers.{askedTold};
 use numbers::Refusal;
 use state::Asked;
 use state::State;

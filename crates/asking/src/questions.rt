@@ -2,7 +2,7 @@
 ghost use mathlib.Core.Path.{_≡_};
 ghost use Rattle.base.specs.Answer.{gives, refuses};
 ghost use Rattle.state.specs.Ask.{pieceCall, soleCall, cutCall};
-ghost use Rattle.state.specs.Told.{askedTold, judgedTold};
+ghost use Rattle.state.specs.Answers.{askedTold, judgedTold};
 use crate::count::is_sole;
 use crate::count::smallest;
 use crate::cutting::is_cut;

@@ -1,18 +1,11 @@
 // A list file: its head, and how much of a buffer is whole links.
 ghost use mathlib.Core.Path.{_≡_};
-ghost use Rattle.lists.specs.List.{noSize, cutBlock};
+ghost use Rattle.lists.specs.List.{cutBlock};
 ghost use Rattle.c_calls.specs.File.{headReply, cHead};
-use lists::FRAGMENTS_MOST;
+use lists::bad_size;
 use lists::cut;
 use numbers::Read;
 use numbers::read_number;
-
-// No list has n fragments.
-fn no_size(n: u32) -> bool
-    ensures { λ r. ⌜ r ≡ noSize n ⌝ }
-{
-    n == 0 || n > FRAGMENTS_MOST
-}
 
 // The head of a list file, from its first bytes: the number of fragments, and the byte where the links begin.
 #[no_mangle]
@@ -21,7 +14,7 @@ pub extern "C" fn welmocant_head(file: &[u8], n: &mut u32, begins: &mut u64) -> 
 {
     match read_number(file, 0) {
         Read::Number(value, next) => {
-            if no_size(value) {
+            if bad_size(value) {
                 *n = 0;
                 *begins = 0;
                 return 1;

@@ -5,7 +5,7 @@ ghost use Rattle.rules.specs.Building.{done};
 ghost use Rattle.state.specs.Layout.{forestIn};
 ghost use Rattle.state.specs.Test.{isBuilding};
 ghost use Rattle.state.specs.Close.{closeIn};
-ghost use Rattle.state.specs.Told.{closedTold};
+ghost use Rattle.state.specs.Answers.{closedTold};
 ghost use Rattle.closing.specs.Closing.{Labels, MayClose, PlacesAll, MayEnd, PreparesFrom, EndsFrom, dueAt};
 ghost use Rattle.closing.specs.Walk.{Wide};
 use crate::arrange::arrange;

@@ -13,7 +13,7 @@ use Rattle.state.specs.Adopt.{adoptCall}
 use Rattle.state.specs.Take.{takeCall}
 use Rattle.state.specs.Close.{Ending, openCall, closeCall}
 use Rattle.state.specs.Ask.{parentCall, levelCall, pieceCall, cutCall, soleCall}
-use Rattle.state.specs.Told.{begunTold, takenTold, closedTold, askedTold, judgedTold}
+use Rattle.state.specs.Answers.{begunTold, takenTold, closedTold, askedTold, judgedTold}
 use Rattle.state.specs.declared.State.{State}
 use Rattle.state.specs.declared.Started.{Started}
 use Rattle.state.specs.declared.Taken.{Taken}

@@ -17,7 +17,7 @@ use Rattle.state.specs.Call.{Begun, Left}
 use Rattle.state.specs.Start.{startCall}
 use Rattle.state.specs.Adopt.{adoptCall}
 use Rattle.state.specs.Close.{Ending, more, whole, read}
-use Rattle.state.specs.Told.{takenTold, closedTold}
+use Rattle.state.specs.Answers.{takenTold, closedTold}
 use Rattle.state.specs.declared.State.{State}
 use Rattle.state.specs.declared.Started.the-variants.{Ready}
 use Rattle.demands.specs.Promises.{Begins, TakeAnswer, OpenAnswer, CloseAnswer, ParentAnswer, LevelAnswer, PieceAnswer, SoleAnswer, CutAnswer, endsBuilding, changes}

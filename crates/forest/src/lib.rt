@@ -1,9 +1,8 @@
 // Every call of document 01, in the stage that the state is in.
 ghost use mathlib.Core.Path.{_≡_};
-ghost use Rattle.state.specs.Test.{isBuilding};
 ghost use Rattle.state.specs.Take.{takeCall};
 ghost use Rattle.state.specs.Close.{closeCall};
-ghost use Rattle.state.specs.Told.{takenTold, closedTold};
+ghost use Rattle.state.specs.Answers.{takenTold, closedTold};
 pub use adopting::adopt;
 pub use asking::cut;
 pub use asking::level;
@@ -19,24 +18,14 @@ pub use state::Stage;
 pub use state::Started;
 pub use state::State;
 pub use state::Taken;
-
-fn in_building(stage: Stage) -> bool
-    ensures { λ r. ⌜ r ≡ isBuilding stage ⌝ }
-{
-    match stage {
-        Stage::Building => true,
-        Stage::Built => false,
-        Stage::Reading => false,
-        Stage::Read => false,
-    }
-}
+use state::is_building;
 
 // Takes a block of links, in Building and in Reading.
 pub fn take(s: State, frag: &mut [u32], held: &mut [u32], block: &[u8]) -> Taken
     ensures { λ r. ⌜ takenTold s r (now (frag .exit)) (now (held .exit)) ≡ takeCall s (now (frag .entry)) (now (held .entry)) (now (block .entry)) ⌝ }
 {
     let stage = s.stage;
-    if in_building(stage) {
+    if is_building(stage) {
         building::take(s, frag, held, block)
     } else {
         reading::take(s, frag, held, block)
@@ -48,7 +37,7 @@ pub fn close(s: State, frag: &mut [u32], held: &mut [u32]) -> Closed
     ensures { λ r. ⌜ closedTold s r (now (frag .exit)) (now (held .exit)) ≡ closeCall s (now (frag .entry)) (now (held .entry)) ⌝ }
 {
     let stage = s.stage;
-    if in_building(stage) {
+    if is_building(stage) {
         closing::close(s, frag, held)
     } else {
         reading::close(s, frag, held)

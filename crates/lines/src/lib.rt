@@ -5,16 +5,16 @@ ghost use lib.ListN.{length};
 ghost use Rattle.numbers.specs.Answers.{wrote};
 ghost use Rattle.rules.specs.Tables.{parentOf};
 ghost use Rattle.state.specs.Layout.{tablesIn};
-ghost use Rattle.state.specs.Told.{askedTold, judgedTold};
+ghost use Rattle.state.specs.Answers.{askedTold, judgedTold};
 ghost use Rattle.lines.specs.Report.{fragmentAt, soleAt, solesFrom, linesTo, reportLines, reportCall};
 ghost use Rattle.text.specs.Put.{Put, Line, ample};
 ghost use Rattle.lines.specs.Laws.Asked.{numberOf, yesOf, Passed, Asking, Parents};
 use numbers::Written;
+use numbers::not_written;
 use state::Asked;
 use state::Judged;
 use state::State;
 pub use text::no_file_line;
-use text::not_written;
 pub use text::refusal_line;
 
 fn number_of(a: Asked) -> usize

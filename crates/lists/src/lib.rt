@@ -12,6 +12,7 @@ ghost use Rattle.lists.specs.Answers.{toldLink, toldCount, toldList};
 use numbers::Read;
 use numbers::Refusal;
 use numbers::Written;
+use numbers::not_written;
 
 // The greatest number of fragments, and of entries in one pass.
 pub const FRAGMENTS_MOST: u32 = 32768;
@@ -50,7 +51,7 @@ fn ends_at(block: &[u8], at: usize) -> Link
 }
 
 // No list has n fragments.
-fn bad_size(n: u32) -> bool
+pub fn bad_size(n: u32) -> bool
     ensures { λ r. ⌜ r ≡ noSize n ⌝ }
 {
     n == 0 || n > FRAGMENTS_MOST
@@ -212,15 +213,6 @@ pub fn cut(part: &[u8]) -> usize
             }
         }
     }
-}
-
-fn not_written(number: u32) -> Written
-    ensures { λ r. ⌜ toldEnd r ≡ refuses number 0 ⌝ }
-{
-    Written::Refused(Refusal {
-        number: number,
-        place: 0,
-    })
 }
 
 // Where the writer ended, or `other` where it refused.

@@ -38,7 +38,8 @@ fn no_number(number: u32) -> Read
     })
 }
 
-fn not_written(number: u32) -> Written
+// Refuses to write, at no place.
+pub fn not_written(number: u32) -> Written
     ensures { λ r. ⌜ toldEnd r ≡ refuses number 0 ⌝ }
 {
     Written::Refused(Refusal {

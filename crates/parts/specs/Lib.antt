@@ -1,5 +1,5 @@
 pub mod Parts
-pub mod Told
+pub mod Answers
 pub mod Steps
 pub mod Whole
 pub mod Laws

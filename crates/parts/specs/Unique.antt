@@ -6,7 +6,7 @@ use Prim.Native.Nat.{ℕ}
 use Rattle.base.specs.Answer.{Answer, gives, refuses}
 use Rattle.state.specs.declared.State.{State}
 use Rattle.parts.specs.Parts.{Header, Opens, Carry, Feeds}
-use Rattle.parts.specs.Told.{openedTold, fedTold}
+use Rattle.parts.specs.Answers.{openedTold, fedTold}
 use Rattle.parts.specs.declared.Opened.{Opened}
 use Rattle.parts.specs.declared.Opened.the-variants.{List as Head, Refused as Unopened}
 use Rattle.parts.specs.declared.Fed.{Fed}

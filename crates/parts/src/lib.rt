@@ -3,7 +3,7 @@ ghost use mathlib.Core.Path.{_≡_};
 ghost use Prim.Native.Nat.{_≤_};
 ghost use lib.ListN.{length};
 ghost use Rattle.parts.specs.Parts.{inBlock, placeIn, carried, openPart, tellable, feedPart};
-ghost use Rattle.parts.specs.Told.{openedTold, fedTold};
+ghost use Rattle.parts.specs.Answers.{openedTold, fedTold};
 use forest::Refusal;
 use forest::State;
 use forest::Taken;

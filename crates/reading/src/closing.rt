@@ -8,7 +8,7 @@ ghost use Rattle.state.specs.Layout.{stored, forestIn, wiped};
 ghost use Rattle.state.specs.Call.{fragmentsMost};
 ghost use Rattle.state.specs.Test.{isReading};
 ghost use Rattle.state.specs.Close.{closeIn};
-ghost use Rattle.state.specs.Told.{closedTold};
+ghost use Rattle.state.specs.Answers.{closedTold};
 ghost use Rattle.state.specs.declared.Closed.the-variants.{False};
 ghost use Rattle.reading.specs.Pass.{failed};
 use numbers::Refusal;

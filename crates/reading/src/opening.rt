@@ -1,7 +1,7 @@
 // Open reading: 'Open reading is allowed in Built and Read, and clears the notes.'
 ghost use mathlib.Core.Path.{_≡_};
 ghost use Rattle.state.specs.Close.{openCall};
-ghost use Rattle.state.specs.Told.{takenTold};
+ghost use Rattle.state.specs.Answers.{takenTold};
 use numbers::Refusal;
 use state::Stage;
 use state::State;

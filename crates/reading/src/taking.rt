@@ -2,7 +2,7 @@
 ghost use mathlib.Core.Path.{_≡_};
 ghost use Rattle.state.specs.Test.{isReading};
 ghost use Rattle.state.specs.Take.{takeIn};
-ghost use Rattle.state.specs.Told.{takenTold};
+ghost use Rattle.state.specs.Answers.{takenTold};
 use crate::tell::tell;
 use lists::Scanned;
 use numbers::Refusal;

@@ -20,4 +20,4 @@ pub mod KeepsCalls
 pub mod KeepsLeft
 pub mod KeepsBegun
 pub mod Tests
-pub mod Told
+pub mod Answers

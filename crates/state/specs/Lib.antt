@@ -6,7 +6,7 @@ pub mod Take
 pub mod Close
 pub mod Adopt
 pub mod Ask
-pub mod Told
+pub mod Answers
 pub mod Laws
 pub mod Theorems
 pub mod Unique

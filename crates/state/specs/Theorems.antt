@@ -10,7 +10,7 @@ use Rattle.state.specs.Layout.{tablesIn, fragOf, heldOf}
 use Rattle.state.specs.Test.{sound}
 use Rattle.state.specs.Call.{boundsRefusal}
 use Rattle.state.specs.Start.{started, startCall}
-use Rattle.state.specs.Told.{begunTold}
+use Rattle.state.specs.Answers.{begunTold}
 use Rattle.state.specs.Laws.Bounds.{bounds-known}
 use Rattle.state.specs.Laws.Sound.{sound-laid}
 use Rattle.state.specs.Laws.Start.{fresh-agrees, fresh-laid, told-once}

@@ -7,9 +7,9 @@ use mathlib.Core.List.{List}
 use Rattle.base.specs.Answer.{Answer}
 use Rattle.state.specs.Call.{Begun, Left}
 use Rattle.state.specs.Close.{closeIn}
-use Rattle.state.specs.Told.{begunTold, takenTold, closedTold, askedTold, judgedTold}
+use Rattle.state.specs.Answers.{begunTold, takenTold, closedTold, askedTold, judgedTold}
 use Rattle.state.specs.Laws.Start.{told-once}
-use Rattle.state.specs.Laws.Told.{taken-once, closed-once, close-other, asked-once, judged-once}
+use Rattle.state.specs.Laws.Answers.{taken-once, closed-once, close-other, asked-once, judged-once}
 use Rattle.state.specs.declared.State.{State}
 use Rattle.state.specs.declared.Stage.{Stage}
 use Rattle.state.specs.declared.Stage.the-variants.{Built}

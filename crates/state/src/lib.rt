@@ -1,6 +1,6 @@
 // The state of a forest that is built, read and asked about, and the two lent tables that go with it.
 ghost use mathlib.Core.Path.{_≡_};
-ghost use Rattle.state.specs.Told.{begunTold};
+ghost use Rattle.state.specs.Answers.{begunTold};
 ghost use Rattle.state.specs.Call.{boundsRefusal};
 ghost use Rattle.state.specs.Start.{startCall};
 ghost use Rattle.state.specs.Layout.{begun as beginning, movedOn};

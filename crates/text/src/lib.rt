@@ -1,25 +1,14 @@
 // The lines of the report as text.
 ghost use mathlib.Core.Path.{_≡_};
-ghost use Rattle.base.specs.Answer.{refuses};
-ghost use Rattle.numbers.specs.Answers.{toldEnd, wrote};
+ghost use Rattle.numbers.specs.Answers.{wrote};
 ghost use Rattle.text.specs.Lines.{refusalLine, noFileLine, store};
 pub use lines::first_line;
 pub use lines::fragment_line;
 pub use lines::sole_line;
-use numbers::Refusal;
 use numbers::Written;
+use numbers::not_written;
 
 mod lines;
-
-// Refuses a text.
-pub fn not_written(number: u32) -> Written
-    ensures { λ r. ⌜ toldEnd r ≡ refuses number 0 ⌝ }
-{
-    Written::Refused(Refusal {
-        number: number,
-        place: 0,
-    })
-}
 
 // Writes the line of a refusal.
 pub fn refusal_line(number: u32, place: usize, out: &mut [u8]) -> Written

@@ -24,7 +24,7 @@ use Rattle.state.specs.Layout.{words, stored, section, wiped, tablesIn, fragOf,
 use Rattle.state.specs.Test.{allZero}
 use Rattle.state.specs.Call.{boundsRefusal}
 use Rattle.state.specs.Adopt.{adoptedState, adoptRefusal, adoptCall}
-use Rattle.state.specs.Told.{begunTold}
+use Rattle.state.specs.Answers.{begunTold}
 use Rattle.state.specs.Laws.Bounds.{Bounds, bounds-known}
 use Rattle.state.specs.Laws.Lists.{all-none, zeros-pass}
 use Rattle.state.specs.Laws.Clear.{wiped-length, wiped-front, wiped-past, wiped-within}

@@ -20,7 +20,7 @@ use Rattle.state.specs.Layout.{movedOn, heldLinks, wiped, radix, linkIn, tables
 use Rattle.state.specs.Test.{isBuilding, allZero, endsFit}
 use Rattle.state.specs.Call.{headRefusal, headed, moved, leaves}
 use Rattle.state.specs.Take.{tell, taken, takeIn}
-use Rattle.state.specs.Told.{takenTold}
+use Rattle.state.specs.Answers.{takenTold}
 use Rattle.state.specs.Laws.Lists.{drop-take}
 use Rattle.state.specs.Laws.Layout.{tables-state}
 use Rattle.state.specs.Laws.Lay.{frag-laid, held-laid}

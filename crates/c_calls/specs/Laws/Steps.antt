@@ -9,7 +9,7 @@ use lib.ListN.{length}
 use Rattle.base.specs.Pick.{pick-all, tests}
 use Rattle.base.specs.Answer.{Answer, refuses}
 use Rattle.state.specs.Call.{Begun, Left, boundsRefusal, headed, leaves}
-use Rattle.state.specs.Told.{begunTold, takenTold, closedTold, askedTold, judgedTold}
+use Rattle.state.specs.Answers.{begunTold, takenTold, closedTold, askedTold, judgedTold}
 use Rattle.state.specs.Take.{takes}
 use Rattle.state.specs.Close.{Ending, endBuilding, endReading, closeIn, closeCall}
 use Rattle.state.specs.Unique.{closed-decided}

@@ -24,7 +24,7 @@ use Rattle.state.specs.Layout.{movedOn, wiped, tablesIn, forestIn, fragOf, held
 use Rattle.state.specs.Test.{isBuilding}
 use Rattle.state.specs.Call.{headRefusal, headed, moved, leaves}
 use Rattle.state.specs.Close.{more, whole, endBuilding, closeIn}
-use Rattle.state.specs.Told.{closedTold}
+use Rattle.state.specs.Answers.{closedTold}
 use Rattle.state.specs.Laws.Clear.{wiped-is}
 use Rattle.state.specs.Laws.Lists.{zeros, zeros-between}
 use Rattle.state.specs.Laws.Layout.{tables-state}

@@ -24,7 +24,7 @@ use Rattle.state.specs.Test.{isBuilding, isReading}
 use Rattle.state.specs.Call.{moved}
 use Rattle.state.specs.Take.{takes}
 use Rattle.state.specs.Close.{opens}
-use Rattle.state.specs.Told.{closedTold}
+use Rattle.state.specs.Answers.{closedTold}
 use Rattle.state.specs.declared.State.{State}
 use Rattle.state.specs.declared.Closed.{Closed}
 use Rattle.state.specs.declared.Closed.the-variants.{More, Done, Read, False, Refused as Unclosed}

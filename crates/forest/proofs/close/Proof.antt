@@ -8,11 +8,10 @@ use Rattle.forest.proofs.close.Tie as tie
 use Rattle.forest.proofs.close.Reads as reads
 use Rattle.forest.proofs.close.Lts as lts
 use Rattle.closing.proofs.close.Reads as closing-close-reads
-use Rattle.forest.proofs.in_building.Reads as in-building-reads
 use Rattle.reading.proofs.close.Reads as closing-close-reads′
 
-in-building-requires : tie.Need-in-building-requires
-in-building-requires c κs = search needs
+is-building-requires : tie.Need-is-building-requires
+is-building-requires c κs = search needs
 
 close-requires : tie.Need-close-requires
 close-requires c κs = search needs
@@ -30,7 +29,7 @@ returns : tie.Need-returns
 returns c =
     let a = c .before .before .before .before .before .before .before .before .before .before .before .args in
     let b = c .before .before .before .before .before .before .before .before in
-    c .before .before .before .before .close .ensures ∙ close-building (a .s) (a .frag .now) (a .held .now) (sym (b .in-building .ensures) ∙ c .before .before .before .before .before .before .before .if1 .taken)
+    c .before .before .before .before .close .ensures ∙ close-building (a .s) (a .frag .now) (a .held .now) (sym (b .is-building .ensures) ∙ c .before .before .before .before .before .before .before .if1 .taken)
 
 same-length-3 : tie.Need-same-length-3
 same-length-3 c = search needs
@@ -42,13 +41,13 @@ returns-2 : tie.Need-returns-2
 returns-2 c =
     let a = c .before .before .before .before .before .before .before .before .before .before .before .args in
     let b = c .before .before .before .before .before .before .before .before in
-    c .before .before .before .before .close2 .ensures ∙ close-reading (a .s) (a .frag .now) (a .held .now) (sym (b .in-building .ensures) ∙ c .before .before .before .before .before .before .before .if1 .left)
+    c .before .before .before .before .close2 .ensures ∙ close-reading (a .s) (a .frag .now) (a .held .now) (sym (b .is-building .ensures) ∙ c .before .before .before .before .before .before .before .if1 .left)
 
 pub close-spec : {M : Type 1} → statement M
 close-spec =
     tie.close
     (tie.spec
-    in-building-requires
+    is-building-requires
     close-requires
     close-requires-2
     same-length

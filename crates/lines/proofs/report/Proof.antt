@@ -1,6 +1,6 @@
 -- `lines::report` meets its contract.
 -- Assumes nothing.
-use Rattle.state.specs.Told.{judgedTold}
+use Rattle.state.specs.Answers.{judgedTold}
 use mathlib.Core.List.{[]}
 use mathlib.Core.Bool.{true, false}
 use mathlib.Core.Path.{sym, ap, _∙_}

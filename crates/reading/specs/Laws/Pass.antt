@@ -18,13 +18,13 @@ use Rattle.state.specs.Layout.{stored, movedOn, wiped, tablesIn, forestIn, frag
 use Rattle.state.specs.Test.{isBuilding, isReading}
 use Rattle.state.specs.Call.{refused, headRefusal, leaves, moved}
 use Rattle.state.specs.Close.{read, opens, openCall, closeIn, endReading}
-use Rattle.state.specs.Told.{told, takenTold, closedTold}
+use Rattle.state.specs.Answers.{told, takenTold, closedTold}
 use Rattle.state.specs.Laws.Layout.{tables-cleared}
 use Rattle.state.specs.Laws.Clear.{wiped-length, wiped-front, wiped-past, wiped-within}
 use Rattle.state.specs.Laws.Lay.{frag-kept, held-laid}
 use Rattle.state.specs.Laws.Agrees.{Agrees}
 use Rattle.state.specs.Laws.Sound.{frag-found, held-found}
-use Rattle.state.specs.Laws.Told.{headed-refused, headed-passed}
+use Rattle.state.specs.Laws.Answers.{headed-refused, headed-passed}
 use Rattle.state.specs.declared.State.{State}
 use Rattle.state.specs.declared.Stage.{Stage}
 use Rattle.state.specs.declared.Stage.the-variants.{Building, Built, Reading, Read}

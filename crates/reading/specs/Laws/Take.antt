@@ -19,8 +19,8 @@ use Rattle.state.specs.Layout.{movedOn, heldLinks, tablesIn, fragOf, heldOf}
 use Rattle.state.specs.Test.{isBuilding, isReading}
 use Rattle.state.specs.Call.{headRefusal, leaves, moved}
 use Rattle.state.specs.Take.{tell, taken, takeIn}
-use Rattle.state.specs.Told.{takenTold}
-use Rattle.state.specs.Laws.Told.{headed-refused, headed-passed}
+use Rattle.state.specs.Answers.{takenTold}
+use Rattle.state.specs.Laws.Answers.{headed-refused, headed-passed}
 use Rattle.state.specs.Laws.Lay.{frag-kept, held-laid}
 use Rattle.state.specs.declared.State.{State}
 use Rattle.state.specs.declared.Taken.the-variants.{On, Refused as Untaken}

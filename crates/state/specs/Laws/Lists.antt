@@ -3,12 +3,12 @@
 use Prim.Native.Nat.{ℕ, zero, suc, _+_, _-_, _≤_, _<_}
 use mathlib.Core.Path.{_≡_, refl, sym, ap, _∙_}
 use mathlib.Core.List.{List, [], _∷_, _++_, map, append-assoc}
-use native.Mathlib.Nat.{zero-add, suc-add}
 use native.Mathlib.Omega.{arith}
 use lib.Dec.{T, eqb, eqb→eq}
 use lib.ListN.{length, getD, take, drop, replicate, length-take, length-drop, length-replicate, getD-replicate, take-append-drop, replicate-append-replicate}
-use lib.Seq.{take-nil, drop-drop, ext-getD}
+use lib.Seq.{drop-drop, ext-getD}
 use Rattle.base.specs.Truth.{and-l, and-r}
+use Rattle.numbers.specs.Laws.Groups.{drop-take as taken-between}
 use Rattle.state.specs.Test.{allZero}
 
 pub length-map : {A B : Type 0} (f : A → B) (l : List A) → length (map f l) ≡ length l
@@ -20,9 +20,7 @@ length-none [] e = refl
 length-none (x ∷ l) e = absurd (omega arith)
 
 pub drop-take : (a n : ℕ) (l : List ℕ) → drop a (take (a + n) l) ≡ take n (drop a l)
-drop-take zero n l = rw zero-add
-drop-take (suc a) n [] = simp take-nil
-drop-take (suc a) n (x ∷ l) = rw (suc-add, drop-take a n l)
+drop-take a n l = let e : a + n - a ≡ n = omega arith in sym (ap (λ i. take i (drop a l)) (sym e) ∙ taken-between a (a + n) l)
 
 -- A list from word a on is its next m words and the rest.
 pub parts : (a m b : ℕ) (l : List ℕ) → a + m ≡ b → drop a l ≡ take m (drop a l) ++ drop b l

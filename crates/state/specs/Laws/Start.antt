@@ -14,7 +14,7 @@ use Rattle.rules.specs.Laws.Search.{every-at}
 use Rattle.state.specs.Layout.{wiped, words, tablesIn, fragOf, heldOf}
 use Rattle.state.specs.Call.{Begun, boundsRefusal}
 use Rattle.state.specs.Start.{started, startCall}
-use Rattle.state.specs.Told.{begunTold}
+use Rattle.state.specs.Answers.{begunTold}
 use Rattle.state.specs.Laws.Lists.{zeros}
 use Rattle.state.specs.Laws.Clear.{wiped-is}
 use Rattle.state.specs.Laws.Lay.{tables-laid}

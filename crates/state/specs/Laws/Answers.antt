@@ -18,7 +18,7 @@ use Rattle.state.specs.Layout.{tablesIn}
 use Rattle.state.specs.Test.{isBuilding}
 use Rattle.state.specs.Call.{Left, refused, boundsRefusal, headRefusal, headed, leaves, moved}
 use Rattle.state.specs.Close.{Ending, endBuilding, endReading, closeIn}
-use Rattle.state.specs.Told.{takenTold, closedTold, askedTold, judgedTold}
+use Rattle.state.specs.Answers.{takenTold, closedTold, askedTold, judgedTold}
 use Rattle.state.specs.declared.State.{State}
 use Rattle.state.specs.declared.Stage.{Stage}
 use Rattle.state.specs.declared.Stage.the-variants.{Built}
