@@ -3,7 +3,6 @@ ghost use mathlib.Core.Path.{_≡_};
 ghost use Rattle.rules.specs.Building.{holdLink};
 ghost use Rattle.building.specs.Gathered.{heldTables};
 ghost use Rattle.building.specs.Telling.{Leaves, Sized, roomAt, Holdable, Holds, Between, Within, MayHold};
-use crate::index::word_of;
 use crate::noted::is_held;
 use crate::noted::note_held;
 use crate::pieces::LINKS;
@@ -12,6 +11,7 @@ use crate::pieces::find;
 use crate::pieces::join;
 use state::wide;
 use tables::MARK;
+use tables::put_link;
 
 // Room for one more link in the piece whose smallest member is p.
 fn has_room(frag: &[u32], n: usize, k: usize, p: usize) -> bool
@@ -84,7 +84,7 @@ fn hold(frag: &mut [u32], held: &mut [u32], n: usize, count: usize, a: usize, b:
     requires { ⌜ Holdable n count a b (now frag) (now held) ⌝ }
     ensures { λ r. ⌜ Holds n count a b (now (frag .entry)) (now (held .entry)) (now (frag .exit)) (now (held .exit)) ⌝ }
 {
-    held[count] = word_of(a, b);
+    put_link(held, count, a, b);
     if a < b {
         join(frag, n, a, b);
     } else {

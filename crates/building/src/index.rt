@@ -3,7 +3,6 @@ ghost use mathlib.Core.Path.{_≡_};
 ghost use Prim.Native.Nat.{_<_, _≤_, min, max};
 ghost use Rattle.state.specs.Layout.{radix, wordOf};
 ghost use Rattle.building.specs.Index.{slotsMost, homeOf, Open, Place};
-use tables::RADIX;
 
 // Added to a word noted whose link is held.
 pub(crate) const FLAG: u32 = 1073741824;
@@ -41,8 +40,5 @@ pub(crate) fn word_of(a: usize, b: usize) -> u32
     requires { ⌜ (a < radix) × (b < radix) ⌝ }
     ensures { λ r. ⌜ r ≡ wordOf (min a b, max a b) ⌝ }
 {
-    if a < b {
-        return a as u32 * RADIX + b as u32;
-    }
-    b as u32 * RADIX + a as u32
+    tables::word_of(a, b)
 }

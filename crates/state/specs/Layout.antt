@@ -2,9 +2,11 @@
 -- Assumes nothing.
 use Prim.Native.Nat.{ℕ, _+_, _-_, _*_, _/_, _%_, _<_, min, max}
 use mathlib.Core.Path.{_≡_}
-use mathlib.Core.Bool.{Bool, false}
+use mathlib.Core.Bool.{Bool, false, _&&_}
 use mathlib.Core.List.{List, [], _++_, map}
 use lib.ListN.{length, getD, take, drop, replicate}
+use lib.Dec.{ltb}
+use Rattle.base.specs.Pick.{pick}
 use Rattle.rules.specs.Links.{Link}
 use Rattle.rules.specs.Tables.{Tables}
 use Rattle.state.specs.declared.State.{State}
@@ -40,6 +42,10 @@ linkIn w = (w / radix, w % radix)
 
 unfoldable pub wordOf : Link → ℕ
 wordOf (a, b) = a * radix + b
+
+-- The word of the link between a and b, whichever is the smaller; 0 where an end is too great for a word.
+unfoldable pub linkWord : ℕ → ℕ → ℕ
+linkWord a b = pick (ltb a radix && ltb b radix) (wordOf (min a b, max a b)) 0
 
 -- The held link at place i of the held table, and the first `count` of them.
 abbrev pub heldLink : List ℕ → ℕ → Link

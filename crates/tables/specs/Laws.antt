@@ -2,3 +2,4 @@
 -- Assumes nothing.
 pub mod Sections
 pub mod Climb
+pub mod Links

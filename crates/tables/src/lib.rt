@@ -11,6 +11,8 @@ pub use climb::root;
 pub use links::RADIX;
 pub use links::high_end;
 pub use links::low_end;
+pub use links::put_link;
+pub use links::word_of;
 pub use sections::LEVEL;
 pub use sections::MARK;
 pub use sections::NOTE;

@@ -26,7 +26,7 @@ use Rattle.rules.specs.Laws.Pieces.{linked-label, label-in, label-own}
 use Rattle.rules.specs.Laws.Tables.{placed-loose, rank-placed}
 use Rattle.rules.specs.Laws.Quota.{held-few}
 use Rattle.rules.specs.Laws.Step.{building-kept}
-use Rattle.state.specs.Layout.{wiped, words, stored, wordOf, tablesIn, forestIn, heldLinks}
+use Rattle.state.specs.Layout.{wiped, words, stored, wordOf, linkWord, tablesIn, forestIn, heldLinks}
 use Rattle.state.specs.Test.{allZero}
 use Rattle.state.specs.Laws.Clear.{wiped-length, wiped-front, wiped-rest, wiped-past}
 use Rattle.state.specs.Laws.Lists.{zeros-pass}
@@ -39,6 +39,7 @@ use Rattle.building.specs.Laws.Pieces.{front-at, rest-at, gathered-by}
 use Rattle.building.specs.Laws.Noted.{noted-none, noted-keeps}
 use Rattle.building.specs.Laws.Gather.{link-there}
 use Rattle.building.specs.Gathered.{holds, heldTables}
+use Rattle.tables.specs.Laws.Links.{word-within}
 use Rattle.building.specs.Telling.{Rising, Telling, Leaves, noting, Notable, roomAt, Sized, Holdable, Holds, Between, Within, MayHold, Rest, Tells, Tellable, Told}
 
 -- The better of two notes is one of them.
@@ -465,17 +466,21 @@ module _ {n k count a b : ℕ} {f₀ f h : List ℕ} (B₀ : Between n k count a
       hold-more = leaves-next (M .same yes-it) (leaves-as held-leaves (ap (holdLink n k a b) (M .same yes-it .tables)))
 
 -- A link is held with its smaller end first.
-pub holds-rising : {n count a b : ℕ} {f h f′ : List ℕ} → a < b → (w : ℕ) → w ≡ wordOf (min a b, max a b) → Joins n a b f f′ → Holds n count a b f h f′ (set h count w)
-holds-rising {n} {count} {a} {b} {f} {h} l w z j =
-    let e : min a b ≡ a = omega arith in
-    let g : max a b ≡ b = omega arith in
-    record { word = ap (λ x. set h count x) z; joins = rw (e, g) j }
+module _ {n count a b : ℕ} {f h h′ : List ℕ} (H : Holdable n count a b f h) (z : h′ ≡ set h count (linkWord a b)) where
+  held-word : h′ ≡ set h count (wordOf (min a b, max a b))
+  held-word = z ∙ ap (λ x. set h count x) (word-within a b (omega (arith, H .few-fragments, H .ends .first)) (omega (arith, H .few-fragments, H .ends .second)))
 
-pub holds-falling : {n count a b : ℕ} {f h f′ : List ℕ} → b ≤ a → (w : ℕ) → w ≡ wordOf (min a b, max a b) → Joins n b a f f′ → Holds n count a b f h f′ (set h count w)
-holds-falling {n} {count} {a} {b} {f} {h} l w z j =
-    let e : min a b ≡ b = omega arith in
-    let g : max a b ≡ a = omega arith in
-    record { word = ap (λ x. set h count x) z; joins = rw (e, g) j }
+  pub holds-rising : {f′ : List ℕ} → a < b → Joins n a b f f′ → Holds n count a b f h f′ h′
+  holds-rising l j =
+      let e : min a b ≡ a = omega arith in
+      let g : max a b ≡ b = omega arith in
+      record { word = held-word; joins = rw (e, g) j }
+
+  pub holds-falling : {f′ : List ℕ} → b ≤ a → Joins n b a f f′ → Holds n count a b f h f′ h′
+  holds-falling l j =
+      let e : min a b ≡ b = omega arith in
+      let g : max a b ≡ a = omega arith in
+      record { word = held-word; joins = rw (e, g) j }
 
 -- Before byte `at` the block's links are told; those from there on lead to what the whole block leaves.
 pub record Midway (n k first entries : ℕ) (block f₀ h₀ : List ℕ) (count : ℕ) (f h : List ℕ) (told at : ℕ) : Type 0 where

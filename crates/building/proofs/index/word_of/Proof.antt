@@ -1,30 +1,13 @@
--- `building::index::word_of` meets its contract: the smaller end is in the high part.
+-- `building::index::word_of` meets its contract: both ends have their place in a word.
 -- Assumes nothing.
-use native.Mathlib.Omega.{arith}
+use mathlib.Core.Path.{_∙_}
+use Rattle.tables.specs.Laws.Links.{word-within}
 use borrow.Author.Needs.{needs}
-use Rattle.state.specs.Layout.{wordOf}
 use Rattle.building.proofs.index.word_of.Statement.{statement}
 use Rattle.building.proofs.index.word_of.Tie as tie
 
 returns : tie.Need-returns
-unfolding wordOf
-returns c = omega arith
-
-returns-2 : tie.Need-returns-2
-unfolding wordOf
-returns-2 c = omega arith
+returns c = let p = c .before .pre in c .word-of .ensures ∙ word-within _ _ (p .0) (p .1)
 
 pub word-of-spec : {M : Type 1} → statement M
-word-of-spec =
-    tie.close
-    (tie.spec
-    (λ c. search needs)
-    (λ c. search needs)
-    (λ c. search needs)
-    (λ c. search needs)
-    returns
-    (λ c. search needs)
-    (λ c. search needs)
-    (λ c. search needs)
-    (λ c. search needs)
-    returns-2)
+word-of-spec = tie.close (tie.spec (λ c κs. search needs) returns)
