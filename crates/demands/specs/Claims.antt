@@ -9,7 +9,7 @@ use Rattle.numbers.specs.declared.Refusal.{Refusal}
 use Rattle.rules.specs.Links.{Links, Tells}
 use Rattle.rules.specs.Removal.{Sole, Cut, Piece}
 use Rattle.rules.specs.Forest.{up}
-use Rattle.rules.specs.Tables.{cleared}
+use Rattle.rules.specs.Tables.{clearNotes}
 use Rattle.rules.specs.Building.{ceiling}
 use Rattle.rules.specs.Adopting.{parentIn}
 use Rattle.state.specs.Layout.{tablesIn, fragOf}
@@ -59,10 +59,10 @@ pub record NotesLost (s : State) (f h : List ℕ) (s′ : State) (f′ h′ : Li
   -- a reading pass was under way
   pub was-reading : T (isReading (s .stage))
   -- 'The entry count becomes 0 at .. refusal 9'
-  pub state-after : s′ ≡ moved Built (s .passes) 0 (cleared (s .n) (tablesIn s f h)) s
+  pub state-after : s′ ≡ moved Built (s .passes) 0 (clearNotes (s .n) (tablesIn s f h)) s
   -- of the words that hold the tables, notes and marks are cleared; parents, levels and every other word stay
   pub frag-before : f ≡ fragOf (s .n) (tablesIn s f h) f
-  pub frag-after : f′ ≡ fragOf (s .n) (cleared (s .n) (tablesIn s f h)) f
+  pub frag-after : f′ ≡ fragOf (s .n) (clearNotes (s .n) (tablesIn s f h)) f
   pub held-after : h′ ≡ h
 
 -- No call at a moment is refused with x.

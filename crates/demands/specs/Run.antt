@@ -7,7 +7,7 @@ use Rattle.base.specs.Pick.{pick}
 use Rattle.base.specs.Answer.{Answer, gives, refuses}
 use Rattle.lists.specs.List.{blockLinks}
 use Rattle.rules.specs.Links.{Link}
-use Rattle.rules.specs.Tables.{Tables, fresh, cleared}
+use Rattle.rules.specs.Tables.{Tables, fresh, clearNotes}
 use Rattle.rules.specs.Building.{buildLinks, passes}
 use Rattle.rules.specs.Reading.{readLinks}
 use Rattle.rules.specs.Adopting.{adopted}
@@ -176,7 +176,7 @@ unfoldable pub tablesOf : Origin → Moment → Tables
 tablesOf o m =
     pick (isBuilding (m .state .stage))
     (buildLinks (fragments o) (roomFor o) (forestOf o (m .told)) (m .telling))
-    (readLinks (cleared (fragments o) (forestOf o (m .told))) (m .telling))
+    (readLinks (clearNotes (fragments o) (forestOf o (m .told))) (m .telling))
 
 -- What the state and the tables of a moment hold.
 abbrev pub tablesAt : Moment → Tables

@@ -6,7 +6,7 @@ use mathlib.Core.Bool.{Bool, _||_}
 use mathlib.Core.List.{List}
 use Rattle.base.specs.Pick.{pick}
 use Rattle.base.specs.Answer.{refuses}
-use Rattle.rules.specs.Tables.{Tables, cleared}
+use Rattle.rules.specs.Tables.{Tables, clearNotes}
 use Rattle.rules.specs.Building.{closeBuilding, done}
 use Rattle.rules.specs.Reading.{accepted}
 use Rattle.state.specs.Layout.{tablesIn, fragOf, heldOf}
@@ -24,7 +24,7 @@ opens stage = isBuilt stage || isRead stage
 unfoldable pub openCall : State → List ℕ → List ℕ → Left (Unit {0})
 openCall s f h =
     headed opens s f h
-    (leaves tt (moved Reading (s .passes) 0 (cleared (s .n) (tablesIn s f h)) s) (cleared (s .n) (tablesIn s f h)) f h)
+    (leaves tt (moved Reading (s .passes) 0 (clearNotes (s .n) (tablesIn s f h)) s) (clearNotes (s .n) (tablesIn s f h)) f h)
 
 -- How a pass ended.
 pub data Ending : Type 0 where
@@ -47,9 +47,9 @@ endReading s t f h =
     (leaves read (moved Read (s .passes) (s .entries) t s) t f h)
     (record {
       answer = refuses 9 0;
-      state = moved Built (s .passes) 0 (cleared (s .n) t) s;
-      frag = fragOf (s .n) (cleared (s .n) t) f;
-      held = heldOf (s .n) (s .k) (cleared (s .n) t) h;
+      state = moved Built (s .passes) 0 (clearNotes (s .n) t) s;
+      frag = fragOf (s .n) (clearNotes (s .n) t) f;
+      held = heldOf (s .n) (s .k) (clearNotes (s .n) t) h;
     })
 
 -- A close that is allowed in some stages.

@@ -3,7 +3,7 @@
 use Prim.Native.Nat.{ℕ, zero, suc, _+_, _≤_, _<_}
 use mathlib.Core.Path.{_≡_, refl, sym, _∙_}
 use mathlib.Core.Bool.{Bool, not}
-use mathlib.Core.List.{List, [], _∷_}
+use mathlib.Core.List.{List}
 use mathlib.Core.Logic.{_⊎_, inl, inr, _≢_}
 use native.Mathlib.Omega.{arith}
 use native.Mathlib.Decide.{ℕ-discrete, decLt}
@@ -17,7 +17,7 @@ use Rattle.numbers.specs.Theorems.{number-refusal}
 use Rattle.lists.specs.List.{andThen, placed, joins, counts, readEnds, readLink, before, linksIn, linksAt, blockLinks}
 use Rattle.lists.specs.Laws.Link.{never-both}
 use Rattle.rules.specs.Links.{Link}
-use Rattle.rules.specs.Tables.{Tables, cleared}
+use Rattle.rules.specs.Tables.{Tables}
 use Rattle.rules.specs.Building.{done}
 use Rattle.rules.specs.Reading.{accepted}
 use Rattle.rules.specs.Adopting.{adoptable}
@@ -32,18 +32,9 @@ use Rattle.state.specs.Ask.{askOne, askTwo}
 use Rattle.state.specs.Laws.Sound.{sound-known, frag-found, held-found}
 use Rattle.state.specs.Laws.Keeps.{Passes, Head, AsFound, headed-all, headed-on, headed-off}
 use Rattle.state.specs.Laws.KeepsBegun.{adopt-makes}
-use Rattle.state.specs.Laws.KeepsTables.{reads-settled}
 use Rattle.state.specs.declared.State.{State}
 use Rattle.state.specs.declared.Stage.{Stage}
 use Rattle.demands.specs.Claims.{Leading, NotesLost}
-
-none-held : (l : List Link) → length l ≡ 0 → l ≡ []
-none-held [] e = refl
-none-held (x ∷ l) e = absurd (omega arith)
-
-held-alike : (n k : ℕ) (h : List ℕ) (t : Tables) → t .held ≡ [] → heldOf n k (cleared n t) h ≡ heldOf n k t h
-unfolding heldOf cleared
-held-alike n k h t e = rw e refl
 
 -- A refused take or open reading leaves everything as found.
 module _ (s : State) (f h : List ℕ) where
@@ -78,7 +69,7 @@ module _ (s : State) (f h : List ℕ) where
   building-loses t = pick-all Loses (done (s .n) t) _ _ (λ place e. absurd (never-both refl e)) (λ place e. absurd (never-both refl e))
 
   reading-loses : Head takes s f h → T (isReading (s .stage)) → Loses (endReading s (tablesIn s f h) f h)
-  unfolding endReading leaves
+  unfolding endReading leaves heldOf
   reading-loses H r = pick-all Loses (accepted (s .n) (tablesIn s f h)) _ _ (λ place e. absurd (never-both refl e)) (λ place e.
       let S = sound-known s f h (H .bounds) (H .passes .tested) in (
         sym (place-is e),
@@ -87,7 +78,7 @@ module _ (s : State) (f h : List ℕ) where
           state-after = refl;
           frag-before = frag-found s f h (H .bounds) S;
           frag-after = refl;
-          held-after = held-alike (s .n) (s .k) h (tablesIn s f h) (none-held (tablesIn s f h .held) (omega (arith, S .agrees .as-many, S .agrees .none-held (reads-settled (s .stage) r)))) ∙ sym (held-found s f h (H .bounds) S);
+          held-after = sym (held-found s f h (H .bounds) S);
         },
       ))
 

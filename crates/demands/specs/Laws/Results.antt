@@ -1,7 +1,7 @@
 -- What the theorems of the rules say of a moment of a run.
 -- Assumes nothing.
 use Prim.Native.Nat.{ℕ, suc, _≤_, _<_}
-use mathlib.Core.Path.{_≡_, refl, sym, _∙_, subst, fun-ext}
+use mathlib.Core.Path.{_≡_, refl, sym, subst, fun-ext}
 use mathlib.Core.List.{List, [], _∷_}
 use mathlib.Core.Logic.{_↔_}
 use native.Mathlib.Omega.{arith}
@@ -30,7 +30,7 @@ use Rattle.demands.specs.Run.{Origin, start, close, Moment, fragments, f
 use Rattle.demands.specs.Step.{closeAt, step}
 use Rattle.demands.specs.Laws.Answered.{building-said}
 use Rattle.demands.specs.Laws.Steps.{read-on, false-on}
-use Rattle.demands.specs.Laws.Runs.{Holds, bounds-at, agrees-at, some-room, forest-stands, building-tables, settled-tables}
+use Rattle.demands.specs.Laws.Runs.{Holds, bounds-at, agrees-at, some-room, forest-stands, building-tables, read-tables}
 
 -- Done speaks of the forest alone.
 done-same : (n : ℕ) {s t : Tables} → SameForest s t → T (done n s) → T (done n t)
@@ -69,11 +69,8 @@ module _ {o : Origin} {m : Moment} (H : Holds o m) where
 
   -- Every other stage: the forest of the passes told stands whole in the tables.
   module _ (b : T (isBuilding (m .state .stage)) → ⊥) where
-    pub read-tables : tablesAt m ≡ readLinks (cleared n F) (m .telling)
-    read-tables = H .tables ∙ settled-tables o m b
-
     pub forest-at : SameForest (tablesAt m) F
-    forest-at = rw read-tables (read-forest (forest-stands H .0) (m .telling) (H .among))
+    forest-at = rw (read-tables H b) (read-forest (forest-stands H .0) (m .telling) (H .among))
 
     pub placed-at : (v : ℕ) → v < n → T (placed (tablesAt m) v)
     placed-at v l = agrees-at H .all-placed b v (rw (H .size) l)
@@ -84,21 +81,21 @@ module _ {o : Origin} {m : Moment} (H : Holds o m) where
 
     -- Reading accepts exactly the depth-first forests of what was told.
     pub accepts-exactly : T (accepted n (tablesAt m)) ↔ DepthFirst n (par (tablesAt m)) (linked (m .telling))
-    accepts-exactly = rw (same-par forest-at, read-tables) (reading-accepts n F (m .telling) (forest-stands H .0) (H .among))
+    accepts-exactly = rw (same-par forest-at, read-tables H b) (reading-accepts n F (m .telling) (forest-stands H .0) (H .among))
 
     -- Where it accepts, what is asked is what removal shows.
     module _ (x : T (accepted n (tablesAt m))) where
       read-accepted : T (accepted n (readLinks (cleared n F) (m .telling)))
-      read-accepted = rw read-tables at x
+      read-accepted = rw (read-tables H b) at x
 
       pub sole-removes : (a b : ℕ) → a < n → b < n → T (sole n (tablesAt m) a b) ↔ Sole (m .telling) a b
-      sole-removes = rw read-tables (sole-by-removal n F (m .telling) (forest-stands H .0) (H .among) read-accepted)
+      sole-removes = rw (read-tables H b) (sole-by-removal n F (m .telling) (forest-stands H .0) (H .among) read-accepted)
 
       pub cut-removes : (v : ℕ) → v < n → T (cut n (tablesAt m) v) ↔ Cut (m .telling) v
-      cut-removes = rw read-tables (cut-by-removal n F (m .telling) (forest-stands H .0) (H .among) read-accepted)
+      cut-removes = rw (read-tables H b) (cut-by-removal n F (m .telling) (forest-stands H .0) (H .among) read-accepted)
 
       pub piece-removes : (v : ℕ) → v < n → Piece (m .telling) v (piece n (tablesAt m) v)
-      piece-removes = rw read-tables (piece-by-removal n F (m .telling) (forest-stands H .0) (H .among) read-accepted)
+      piece-removes = rw (read-tables H b) (piece-by-removal n F (m .telling) (forest-stands H .0) (H .among) read-accepted)
 
   -- The close of a reading pass.
   module _ (r : T (isReading (m .state .stage))) where

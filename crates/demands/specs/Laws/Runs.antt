@@ -16,7 +16,7 @@ use Rattle.lists.specs.List.{blockLinks}
 use Rattle.lists.specs.Laws.Link.{never-both, answered}
 use Rattle.lists.specs.Theorems.{accepted-sound}
 use Rattle.rules.specs.Links.{Link, linked, Among, Each}
-use Rattle.rules.specs.Tables.{Tables, cleared}
+use Rattle.rules.specs.Tables.{Tables, clearNotes, cleared}
 use Rattle.rules.specs.Building.{buildLinks, closeBuilding, done, pass, passes}
 use Rattle.rules.specs.Reading.{readLinks, accepted}
 use Rattle.rules.specs.Facts.{Standing, Rested}
@@ -24,7 +24,7 @@ use Rattle.rules.specs.Laws.Links.{among-nil}
 use Rattle.rules.specs.Laws.Tables.{fresh-rested}
 use Rattle.rules.specs.Laws.Reading.{read-append, read-forest}
 use Rattle.rules.specs.Laws.Adopting.{adopted-rested}
-use Rattle.rules.specs.Laws.Append.{build-append, among-append, passes-snoc, each-snoc, passes-stand, cleared-same, rested-cleared}
+use Rattle.rules.specs.Laws.Append.{build-append, among-append, passes-snoc, each-snoc, passes-stand, cleared-same, rested-cleared, unheld-cleared}
 use Rattle.state.specs.Layout.{tablesIn}
 use Rattle.state.specs.Test.{isBuilding, isReading}
 use Rattle.state.specs.Call.{boundsRefusal, Begun, moved}
@@ -35,6 +35,7 @@ use Rattle.state.specs.Close.{opens}
 use Rattle.state.specs.Laws.Bounds.{Bounds, bounds-known}
 use Rattle.state.specs.Laws.Sound.{Agrees, sound-known}
 use Rattle.state.specs.Laws.Keeps.{Passes}
+use Rattle.state.specs.Laws.KeepsReading.{held-none}
 use Rattle.state.specs.Laws.KeepsTables.{among-links, reads-settled}
 use Rattle.state.specs.Laws.KeepsCalls.{upholds-on, take-keeps, open-keeps, close-keeps}
 use Rattle.state.specs.Laws.KeepsBegun.{MakesState, start-keeps, start-makes, adopt-keeps, adopt-makes}
@@ -81,7 +82,7 @@ module _ (o : Origin) (m : Moment) where
   unfolding tablesOf
   building-tables b = rw (T-true (isBuilding (m .state .stage)) b) (pick-true _ _)
 
-  pub settled-tables : (T (isBuilding (m .state .stage)) → ⊥) → tablesOf o m ≡ readLinks (cleared (fragments o) (forestOf o (m .told))) (m .telling)
+  pub settled-tables : (T (isBuilding (m .state .stage)) → ⊥) → tablesOf o m ≡ readLinks (clearNotes (fragments o) (forestOf o (m .told))) (m .telling)
   unfolding tablesOf
   settled-tables b = rw (T-false (isBuilding (m .state .stage)) b) (pick-false _ _)
 
@@ -90,9 +91,14 @@ module _ (o : Origin) (m : Moment) where
   unfolding buildLinks
   building-none b e = building-tables b ∙ rw e refl
 
-  pub settled-none : (T (isBuilding (m .state .stage)) → ⊥) → m .telling ≡ [] → tablesOf o m ≡ cleared (fragments o) (forestOf o (m .told))
+  pub settled-none : (T (isBuilding (m .state .stage)) → ⊥) → m .telling ≡ [] → tablesOf o m ≡ clearNotes (fragments o) (forestOf o (m .told))
   unfolding readLinks
   settled-none b e = settled-tables b ∙ rw e refl
+
+-- Outside Building nothing is held: what was told last was read from a table with everything but its forest cleared.
+pub read-tables : {o : Origin} {m : Moment} → Holds o m → (T (isBuilding (m .state .stage)) → ⊥) → tablesAt m ≡ readLinks (cleared (fragments o) (forestOf o (m .told))) (m .telling)
+read-tables {o} {m} H b =
+    H .tables ∙ settled-tables o m b ∙ ap (λ (t : Tables). readLinks t (m .telling)) (unheld-cleared (fragments o) (forestOf o (m .told)) (forest-stands H .1 .no-held))
 
 opens-settled : (g : Stage) → T (opens g) → T (isBuilding g) → ⊥
 opens-settled Building o b = o
@@ -124,10 +130,12 @@ module _ {o : Origin} {m : Moment} (H : Holds o m) where
   same-hold : (c : Call) → step m c ≡ m → Holds o (step m c)
   same-hold c e = rw e H
 
-  cleared-forest-at : (T (isBuilding (m .state .stage)) → ⊥) → cleared (m .state .n) (tablesAt m) ≡ cleared (fragments o) (forestOf o (m .told))
+  cleared-forest-at : (T (isBuilding (m .state .stage)) → ⊥) → clearNotes (m .state .n) (tablesAt m) ≡ clearNotes (fragments o) (forestOf o (m .told))
   cleared-forest-at b =
-      rw (H .tables, settled-tables o m b, H .size)
-      (cleared-same (fragments o) (read-forest (forest-stands H .0) (m .telling) (H .among)))
+      let (S, R) = forest-stands H in
+      unheld-cleared (m .state .n) (tablesAt m) (held-none (m .state) (tablesAt m) (agrees-at H) (bounds-at H .some-room) b)
+      ∙ rw (read-tables H b, H .size) (cleared-same (fragments o) (read-forest S (m .telling) (H .among)))
+      ∙ sym (unheld-cleared (fragments o) (forestOf o (m .told)) (R .no-held))
 
   -- A pass that goes on.
   told-on : (m′ : Moment) (g : List Link) → m′ .state .stage ≡ m .state .stage → m′ .told ≡ m .told → m′ .telling ≡ m .telling ++ g
@@ -163,7 +171,7 @@ module _ {o : Origin} {m : Moment} (H : Holds o m) where
 
   -- Notes are cleared, and the forest stays: open reading, and refusal 9.
   cleared-holds : (c : Call) (g : Stage) → (T (isBuilding g) → ⊥) → (T (isBuilding (m .state .stage)) → ⊥)
-      → Leads (step m c) (moved g (m .state .passes) 0 (cleared (m .state .n) (tablesAt m)) (m .state)) (cleared (m .state .n) (tablesAt m)) (m .told) []
+      → Leads (step m c) (moved g (m .state .passes) 0 (clearNotes (m .state .n) (tablesAt m)) (m .state)) (clearNotes (m .state .n) (tablesAt m)) (m .told) []
       → Holds o (step m c)
   cleared-holds c g d b L =
       leads-hold (step m c) _ _ _ _ _ _ L (tested-on c) (H .counted) refl (among-nil (fragments o)) (H .amongs)
@@ -197,7 +205,7 @@ module _ {o : Origin} {m : Moment} (H : Holds o m) where
     | yes d ↦
         let L = whole-on m (H .tested) b d in
         let R = passes-stand (some-room H) (firstTables o) (m .told ++ (m .telling ∷ [])) (H .first-stands) (H .first-rests) each .1 in
-        passed-holds Built b L (λ st. sym (settled-none o (step m close) (rw st (λ x. x)) (L .as-telling) ∙ rw (L .as-told) (rested-cleared R)))
+        passed-holds Built b L (λ st. sym (settled-none o (step m close) (rw st (λ x. x)) (L .as-telling) ∙ rw (L .as-told) (unheld-cleared (fragments o) _ (R .no-held) ∙ rested-cleared R)))
     | no d ↦
         let L = more-on m (H .tested) b d in
         passed-holds Building b L (λ st. sym (building-none o (step m close) (rw st tt) (L .as-telling)))
@@ -228,7 +236,7 @@ module _ (o : Origin) (b : Begun) (s : State) (p : Passes s (b .frag) (b .held))
   unfolding opening forestOf passes
   first-tables = elim (T-dec (isBuilding (s .stage))) [
     | yes c ↦ building-none o (opening s (b .frag) (b .held)) c refl
-    | no c ↦ settled-none o (opening s (b .frag) (b .held)) c refl ∙ rested-cleared R
+    | no c ↦ settled-none o (opening s (b .frag) (b .held)) c refl ∙ unheld-cleared (fragments o) (firstTables o) (R .no-held) ∙ rested-cleared R
   ]
 
   opened : (s₀ : State) → s ≡ s₀ → MakesState b s₀ (firstTables o) → s₀ .n ≡ fragments o → s₀ .k ≡ roomFor o → s₀ .passes ≡ 0 → s₀ .entries ≡ 0 → Holds o (opening s (b .frag) (b .held))

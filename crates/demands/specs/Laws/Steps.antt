@@ -9,7 +9,7 @@ use Rattle.base.specs.Pick.{pick}
 use Rattle.base.specs.Answer.{gives, refuses}
 use Rattle.lists.specs.List.{blockLinks}
 use Rattle.rules.specs.Links.{Link}
-use Rattle.rules.specs.Tables.{Tables, cleared}
+use Rattle.rules.specs.Tables.{Tables, clearNotes}
 use Rattle.rules.specs.Building.{closeBuilding, done}
 use Rattle.rules.specs.Reading.{accepted}
 use Rattle.state.specs.Test.{isBuilding, isReading}
@@ -59,7 +59,7 @@ module _ (m : Moment) (p : Passes (m .state) (m .frag) (m .held)) where
   unfolding step afterOpen openCall
   open-off c = rw (headed-off opens s (m .frag) (m .held) p c _) refl
 
-  pub open-on : T (opens (s .stage)) → Leads (step m openReading) (moved Reading (s .passes) 0 (cleared (s .n) t) s) (cleared (s .n) t) (m .told) []
+  pub open-on : T (opens (s .stage)) → Leads (step m openReading) (moved Reading (s .passes) 0 (clearNotes (s .n) t) s) (clearNotes (s .n) t) (m .told) []
   unfolding step afterOpen
   open-on c =
       let M = open-makes s (m .frag) (m .held) p c in
@@ -92,7 +92,7 @@ module _ (m : Moment) (p : Passes (m .state) (m .frag) (m .held)) where
         let M = read-makes s (m .frag) (m .held) p r x in
         record { state = M .state; tables = M .tables; as-told = rw (M .answer) refl; as-telling = rw (M .answer) refl }
 
-    pub false-on : (T (accepted (s .n) t) → ⊥) → Leads (step m close) (moved Built (s .passes) 0 (cleared (s .n) t) s) (cleared (s .n) t) (m .told) []
+    pub false-on : (T (accepted (s .n) t) → ⊥) → Leads (step m close) (moved Built (s .passes) 0 (clearNotes (s .n) t) s) (clearNotes (s .n) t) (m .told) []
     unfolding step afterClose pick
     false-on x =
         let M = false-makes s (m .frag) (m .held) p r x in

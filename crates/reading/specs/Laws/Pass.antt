@@ -12,7 +12,7 @@ use Rattle.base.specs.Pick.{pick-true, pick-false}
 use Rattle.base.specs.Truth.{false-T}
 use Rattle.base.specs.Answer.{gives}
 use Rattle.rules.specs.Search.{every}
-use Rattle.rules.specs.Tables.{Tables, parentOf, rank, markOf, placed, par, cleared}
+use Rattle.rules.specs.Tables.{Tables, parentOf, rank, markOf, placed, par, clearNotes}
 use Rattle.rules.specs.Reading.{seen, accepted}
 use Rattle.state.specs.Layout.{stored, movedOn, wiped, tablesIn, forestIn, fragOf, heldOf}
 use Rattle.state.specs.Test.{isBuilding, isReading}
@@ -60,7 +60,7 @@ reading-later Read e = refl
 -- What is left where notes and marks are cleared.
 module _ {s : State} {f h : List ℕ} (p : Passed s f h) (f′ : List ℕ) (b : f′ ≡ wiped (2 * s .n) (stored * s .n) f) (g : Stage) (passes entries : ℕ) where
   abbrev t : Tables
-  t = cleared (s .n) (tablesIn s f h)
+  t = clearNotes (s .n) (tablesIn s f h)
 
   abbrev s′ : State
   s′ = movedOn s g passes entries 0 false
@@ -71,16 +71,20 @@ module _ {s : State} {f h : List ℕ} (p : Passed s f h) (f′ : List ℕ) (b : 
   as-long : length f′ ≡ length f
   as-long = rw b (wiped-length (2 * s .n) (stored * s .n) f (omega arith) room)
 
+  none-held : s .held ≡ 0
+  none-held = p .found .agrees .none-held (false-T (isBuilding (s .stage)) (p .settled))
+
+  -- As many links as before: none.
+  pub count-left : 0 ≡ length (t .held)
+  count-left = sym none-held ∙ p .found .agrees .as-many
+
   tables-left : tablesIn s′ f′ h ≡ t
   tables-left =
-      tables-cleared s s′ f f′ h h refl refl refl (omega (arith, as-long, room)) (rw b (wiped-front (2 * s .n) (stored * s .n) f (omega arith) room))
+      tables-cleared s s′ f f′ h refl (sym none-held) refl (omega (arith, as-long, room)) (rw b (wiped-front (2 * s .n) (stored * s .n) f (omega arith) room))
       (λ i l k. rw b (wiped-within (2 * s .n) (stored * s .n) f (omega arith) room i l k))
 
   pub frag-left : f′ ≡ fragOf (s .n) t f
   frag-left = frag-kept s′ f f′ h t tables-left (omega (arith, p .bounds .frag-long, as-long)) (p .found .scratch) (rw b (wiped-past (2 * s .n) (stored * s .n) f (omega arith) room))
-
-  none-held : s .held ≡ 0
-  none-held = p .found .agrees .none-held (false-T (isBuilding (s .stage)) (p .settled))
 
   pub held-left : h ≡ heldOf (s .n) (s .k) t h
   held-left = held-laid s′ f′ h h t tables-left (omega arith) (p .bounds .held-long) (rw none-held at (p .found .unused)) refl
@@ -92,10 +96,10 @@ module _ (s : State) (f h : List ℕ) (r : ℕ) (e : r ≡ headRefusal opens s f
   open-refused d = headed-refused opens s f h _ r e d
 
   pub open-done : r ≡ 0 → Passed s f h → (f′ : List ℕ) → f′ ≡ wiped (2 * s .n) (stored * s .n) f → (x : State) → x ≡ opened s → takenTold s (On x) f′ h ≡ openCall s f h
-  unfolding openCall leaves moved cleared
+  unfolding openCall leaves moved
   open-done z p f′ b x ex =
       ap (λ (y : State). takenTold s (On y) f′ h) ex
-      ∙ (λ i. record { answer = gives tt; state = opened s; frag = frag-left p f′ b Reading (s .passes) 0 i; held = held-left p f′ b Reading (s .passes) 0 i })
+      ∙ (λ i. record { answer = gives tt; state = movedOn s Reading (s .passes) 0 (count-left p f′ b Reading (s .passes) 0 i) false; frag = frag-left p f′ b Reading (s .passes) 0 i; held = held-left p f′ b Reading (s .passes) 0 i })
       ∙ headed-passed opens s f h _ r e z
 
 -- The pass is true of the forest, or it is false.
@@ -115,8 +119,8 @@ unfolding endReading leaves moved
 end-read s t f h a = rw (a, pick-true)
 
 end-false : (s : State) (t : Tables) (f h : List ℕ) → accepted (s .n) t ≡ false
-    → refused (failed s) (fragOf (s .n) (cleared (s .n) t) f) (heldOf (s .n) (s .k) (cleared (s .n) t) h) 9 0 ≡ endReading s t f h
-unfolding endReading moved cleared
+    → refused (movedOn s Built (s .passes) 0 (length (t .held)) false) (fragOf (s .n) (clearNotes (s .n) t) f) (heldOf (s .n) (s .k) (clearNotes (s .n) t) h) 9 0 ≡ endReading s t f h
+unfolding endReading moved
 end-false s t f h a = rw (a, pick-false)
 
 -- The answers of close.
@@ -142,5 +146,5 @@ module _ (s : State) (f h : List ℕ) (r : ℕ) (e : r ≡ headRefusal isReading
     pub close-false : accepted (s .n) (tablesIn s f h) ≡ false → (f′ : List ℕ) → f′ ≡ wiped (2 * s .n) (stored * s .n) f
         → (x : Closed) → x ≡ False (failed s) → closedTold s x f′ h ≡ closeIn isReading s f h
     close-false a f′ b x ex =
-        ap (λ y. closedTold s y f′ h) ex ∙ (λ i. refused (failed s) (frag-left p f′ b Built (s .passes) 0 i) (held-left p f′ b Built (s .passes) 0 i) 9 0)
+        ap (λ y. closedTold s y f′ h) ex ∙ (λ i. refused (movedOn s Built (s .passes) 0 (count-left p f′ b Built (s .passes) 0 i) false) (frag-left p f′ b Built (s .passes) 0 i) (held-left p f′ b Built (s .passes) 0 i) 9 0)
         ∙ end-false s (tablesIn s f h) f h a ∙ close-ends

@@ -7,7 +7,7 @@ use mathlib.Core.List.{List, [], _∷_, _++_}
 use mathlib.Core.Logic.{inl, inr}
 use Rattle.rules.specs.Links.{Link, Links, linked, Among, Each}
 use Rattle.rules.specs.Forest.{up, DepthFirst}
-use Rattle.rules.specs.Tables.{Tables, cleared}
+use Rattle.rules.specs.Tables.{Tables, clearNotes, cleared}
 use Rattle.rules.specs.Building.{buildLink, buildLinks, pass, passes}
 use Rattle.rules.specs.Facts.{Standing, Rested}
 use Rattle.rules.specs.Laws.Links.{append-cases}
@@ -52,6 +52,11 @@ put-back t a b h c p q r s = rw (← p, ← q, ← r, ← s) refl
 pub rested-cleared : {n : ℕ} {t : Tables} → Rested n t → cleared n t ≡ t
 unfolding cleared
 rested-cleared {n} {t} R = put-back t _ _ _ _ (R .no-note) (R .no-mark) (R .no-held) (R .no-cross)
+
+-- Where no link is held, clearing the notes is clearing both.
+pub unheld-cleared : (n : ℕ) (t : Tables) → t .held ≡ [] → clearNotes n t ≡ cleared n t
+unfolding cleared
+unheld-cleared n t e = rw e refl
 
 -- A depth-first forest is one by the parents of its fragments.
 module _ (n : ℕ) (p q : ℕ → ℕ) (same : (v : ℕ) → v < n → p v ≡ q v) (inside : (v : ℕ) → v < n → p v < n) where

@@ -14,7 +14,7 @@ use Rattle.base.specs.Truth.{or-cases, T-dec, T-true, T-false}
 use Rattle.lists.specs.List.{blockLinks}
 use Rattle.lists.specs.Laws.Link.{never-both}
 use Rattle.rules.specs.Links.{Link}
-use Rattle.rules.specs.Tables.{Tables, cleared}
+use Rattle.rules.specs.Tables.{Tables, clearNotes}
 use Rattle.rules.specs.Building.{closeBuilding, done}
 use Rattle.rules.specs.Reading.{accepted}
 use Rattle.state.specs.Layout.{tablesIn, fragOf, heldOf}
@@ -101,7 +101,7 @@ module _ (s : State) (f h : List ℕ) where
   pub open-keeps : Upholds s f h (openCall s f h)
   unfolding openCall
   open-keeps =
-      let t = cleared (s .n) (tablesIn s f h) in
+      let t = clearNotes (s .n) (tablesIn s f h) in
       headed-upholds s f h opens (leaves tt (moved Reading (s .passes) 0 t s) t f h)
       (λ H. leaves-upholds s f h (H .bounds) Reading (s .passes) 0 t (open-agrees s f h H) tt)
 
@@ -120,7 +120,7 @@ module _ (s : State) (f h : List ℕ) where
       let t = tablesIn s f h in
       elim (T-dec (accepted (s .n) t)) [
         | yes x ↦ rw (T-true (accepted (s .n) t) x, pick-true) (leaves-upholds s f h (H .bounds) Read (s .passes) (s .entries) t (read-agrees-at s f h H r x) read)
-        | no x ↦ rw (T-false (accepted (s .n) t) x, pick-false) (false-upholds s f h (H .bounds) Built (s .passes) 0 (cleared (s .n) t) (false-agrees s f h H r))
+        | no x ↦ rw (T-false (accepted (s .n) t) x, pick-false) (false-upholds s f h (H .bounds) Built (s .passes) 0 (clearNotes (s .n) t) (false-agrees s f h H r))
       ]
 
   pub close-keeps : Upholds s f h (closeCall s f h)

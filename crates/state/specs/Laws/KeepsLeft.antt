@@ -10,7 +10,7 @@ use Rattle.base.specs.Answer.{Answer, gives, refuses}
 use Rattle.base.specs.Truth.{or-l, or-r, T-true, T-false}
 use Rattle.lists.specs.List.{blockLinks}
 use Rattle.rules.specs.Links.{Link}
-use Rattle.rules.specs.Tables.{Tables, cleared}
+use Rattle.rules.specs.Tables.{Tables, clearNotes}
 use Rattle.rules.specs.Building.{closeBuilding, done}
 use Rattle.rules.specs.Reading.{accepted}
 use Rattle.state.specs.Layout.{tablesIn}
@@ -45,10 +45,10 @@ module _ (s : State) (f h : List ℕ) (p : Passes s f h) where
       rw (headed-on takes s f h p c (taken s f h (blockLinks (s .n) (s .entries) block)), e)
       (leaves-makes tt (moved (s .stage) (s .passes) (s .entries + length g) t s) t f h (H .bounds) (take-agrees s f h H block g e))
 
-  pub open-makes : T (opens (s .stage)) → let t = cleared (s .n) (tablesIn s f h) in Makes (openCall s f h) (gives tt) (moved Reading (s .passes) 0 t s) t
+  pub open-makes : T (opens (s .stage)) → let t = clearNotes (s .n) (tablesIn s f h) in Makes (openCall s f h) (gives tt) (moved Reading (s .passes) 0 t s) t
   unfolding openCall moved
   open-makes c =
-      let t = cleared (s .n) (tablesIn s f h) in
+      let t = clearNotes (s .n) (tablesIn s f h) in
       let H = head-passes opens s f h p c in
       rw (headed-on opens s f h p c (leaves (tt {0}) (moved Reading (s .passes) 0 t s) t f h))
       (leaves-makes tt (moved Reading (s .passes) 0 t s) t f h (H .bounds) (open-agrees s f h H))
@@ -92,9 +92,9 @@ module _ (s : State) (f h : List ℕ) (p : Passes s f h) where
         rw (close-reading, T-true (accepted (s .n) t) x, pick-true)
         (leaves-makes read (moved Read (s .passes) (s .entries) t s) t f h (in-reading .bounds) (read-agrees-at s f h in-reading r x))
 
-    pub false-makes : (T (accepted (s .n) (tablesIn s f h)) → ⊥) → let t = cleared (s .n) (tablesIn s f h) in Makes (closeCall s f h) (refuses 9 0) (moved Built (s .passes) 0 t s) t
+    pub false-makes : (T (accepted (s .n) (tablesIn s f h)) → ⊥) → let t = clearNotes (s .n) (tablesIn s f h) in Makes (closeCall s f h) (refuses 9 0) (moved Built (s .passes) 0 t s) t
     unfolding endReading moved
     false-makes x =
-        let t = cleared (s .n) (tablesIn s f h) in
+        let t = clearNotes (s .n) (tablesIn s f h) in
         rw (close-reading, T-false (accepted (s .n) (tablesIn s f h)) x, pick-false)
         (record { answer = refl; state = refl; tables = laid-tables (moved Built (s .passes) 0 t s) t f h (in-reading .bounds .fragments) (false-agrees s f h in-reading r) })

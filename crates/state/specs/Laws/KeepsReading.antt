@@ -13,11 +13,12 @@ use Rattle.base.specs.Pick.{pick-all}
 use Rattle.base.specs.Truth.{and-l, or-l, or-r, T-false}
 use Rattle.rules.specs.Links.{Link, linked, Among}
 use Rattle.rules.specs.Search.{every}
-use Rattle.rules.specs.Tables.{Tables, parentOf, noteOf, markOf, placed, par, lev, putMark, putCrossed, cleared}
+use Rattle.rules.specs.Tables.{Tables, parentOf, noteOf, markOf, placed, par, lev, putMark, putCrossed, clearNotes, cleared}
 use Rattle.rules.specs.Reading.{hear, readLink, readLinks, accepted, seen}
 use Rattle.rules.specs.Laws.Step.{none-holding}
 use Rattle.rules.specs.Laws.Tables.{SameForest, forest-refl, same-parentOf, same-placed, same-lev, placed-loose, par-placed, standing-same, standing-cleared, cleared-forest, cleared-rested, putNote-mark, putCrossed-mark}
 use Rattle.rules.specs.Laws.Reading.{Heard, heard-links}
+use Rattle.rules.specs.Laws.Append.{unheld-cleared}
 use Rattle.state.specs.Test.{entriesMost, isBuilding, isBuilt, isReading, isRead, endsFit}
 use Rattle.state.specs.Call.{moved}
 use Rattle.state.specs.Laws.Lists.{length-none}
@@ -64,19 +65,20 @@ not-built : (g : Stage) → T (isReading g || isRead g) → T (isBuilt g) → �
 not-built g r b = reading-alone g r (or-r (isBuilding g) (isBuilt g) b)
 
 module _ (s : State) (t : Tables) (a : Agrees s t) (some : 1 ≤ s .k) (settled : T (isBuilding (s .stage)) → ⊥) where
-  held-none : t .held ≡ []
+  pub held-none : t .held ≡ []
   held-none = length-none (t .held) (sym (a .as-many) ∙ a .none-held settled)
 
   -- Open reading 'clears the notes'; at refusal 9 'the notes are cleared'.
-  pub cleared-agrees : (g : Stage) → (T (isBuilding g) → ⊥) → (T (isRead g) → ⊥) → Agrees (moved g (s .passes) 0 (cleared (s .n) t) s) (cleared (s .n) t)
-  unfolding moved
+  pub cleared-agrees : (g : Stage) → (T (isBuilding g) → ⊥) → (T (isRead g) → ⊥) → Agrees (moved g (s .passes) 0 (clearNotes (s .n) t) s) (clearNotes (s .n) t)
+  unfolding moved cleared
   cleared-agrees g b r =
       let F = cleared-forest t (s .n) in
       let C = cleared-rested (s .n) t in
       let all : (v : ℕ) → v < s .n → T (placed (cleared (s .n) t) v) = λ v l. rw (same-placed F) (a .all-placed settled v l) in
-      rested-agrees (moved g (s .passes) 0 (cleared (s .n) t) s) (cleared (s .n) t) (standing-cleared (a .standing)) C
+      rw (unheld-cleared (s .n) t held-none)
+      (rested-agrees (moved g (s .passes) 0 (cleared (s .n) t) s) (cleared (s .n) t) (standing-cleared (a .standing)) C
       some (ap length (C .no-held)) (C .no-cross) refl (rw (same-placed F) (a .passes-few))
-      (λ v l f. absurd (placed-loose (cleared (s .n) t) v (all v l) f)) (λ x. absurd (b x)) (λ x. all) r
+      (λ v l f. absurd (placed-loose (cleared (s .n) t) v (all v l) f)) (λ x. absurd (b x)) (λ x. all) r)
 
   -- The same forest in a stage of reading, with other notes and marks.
   module _ (g : Stage) (r : T (isReading g || isRead g)) (e : ℕ) (few : e ≤ entriesMost) (t′ : Tables) (F : SameForest t′ t) (eh : t′ .held ≡ t .held)

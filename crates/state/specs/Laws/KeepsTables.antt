@@ -14,7 +14,7 @@ use Rattle.lists.specs.List.{blockLinks}
 use Rattle.lists.specs.Words.{Sound as Fits}
 use Rattle.lists.specs.Theorems.{accepted-sound, accepted-count}
 use Rattle.rules.specs.Links.{Link, linked, Among}
-use Rattle.rules.specs.Tables.{Tables, cleared}
+use Rattle.rules.specs.Tables.{Tables, clearNotes}
 use Rattle.rules.specs.Building.{closeBuilding, done}
 use Rattle.rules.specs.Reading.{accepted}
 use Rattle.rules.specs.Laws.Links.{linked-nil, linked-cases}
@@ -73,7 +73,7 @@ module _ (s : State) (f h : List ℕ) where
       (among-links (s .n) g (accepted-sound (s .n) (s .entries) block g e))
       (omega (arith, H .agrees .entries-few, accepted-count (s .n) (s .entries) block g e))
 
-  pub open-agrees : Head opens s f h → Agrees (moved Reading (s .passes) 0 (cleared (s .n) held-in) s) (cleared (s .n) held-in)
+  pub open-agrees : Head opens s f h → Agrees (moved Reading (s .passes) 0 (clearNotes (s .n) held-in) s) (clearNotes (s .n) held-in)
   open-agrees H = cleared-agrees s held-in (H .agrees) (H .bounds .some-room) (opens-settled (s .stage) (H .allows)) Reading (λ b. b) (λ b. b)
 
   module _ (H : Head takes s f h) (b : T (isBuilding (s .stage))) where
@@ -87,5 +87,5 @@ module _ (s : State) (f h : List ℕ) where
     pub read-agrees-at : T (accepted (s .n) held-in) → Agrees (moved Read (s .passes) (s .entries) held-in s) held-in
     read-agrees-at x = accepted-agrees s held-in (H .agrees) (H .bounds .some-room) r x
 
-    pub false-agrees : Agrees (moved Built (s .passes) 0 (cleared (s .n) held-in) s) (cleared (s .n) held-in)
+    pub false-agrees : Agrees (moved Built (s .passes) 0 (clearNotes (s .n) held-in) s) (clearNotes (s .n) held-in)
     false-agrees = cleared-agrees s held-in (H .agrees) (H .bounds .some-room) (reads-settled (s .stage) r) Built (λ b. b) (λ b. b)

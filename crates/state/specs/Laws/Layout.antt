@@ -9,7 +9,7 @@ use lib.ListN.{length, getD, set, take, drop, replicate, length-take, length-dro
 use lib.Seq.{getD-take, getD-drop, take-set-lt, take-set-le, drop-set-lt, drop-set-add, take-suc-set, take-take}
 use native.Mathlib.Nat.{mul-le-mul-right}
 use native.Mathlib.Numerals.{add-one}
-use Rattle.rules.specs.Tables.{Tables, parentOf, rank, noteOf, markOf, place, putNote, putMark, putHeld, putCrossed, cleared}
+use Rattle.rules.specs.Tables.{Tables, parentOf, rank, noteOf, markOf, place, putNote, putMark, putHeld, putCrossed, clearNotes}
 use Rattle.state.specs.Layout.{stored, section, linkIn, tablesIn}
 use Rattle.state.specs.Laws.Lists.{drop-take, all-none}
 use Rattle.state.specs.declared.State.{State}
@@ -140,18 +140,18 @@ module _ (s s′ : State) (f h : List ℕ) (en : s′ .n ≡ s .n) where
   unfolding tablesIn putCrossed
   store-crossed b e c = rw (en, e, c)
 
--- What is left where the words from 2·n to 4·n are cleared, no link is held and nothing crossed: notes and marks cleared.
-pub tables-cleared : (s s′ : State) (f f′ h h′ : List ℕ) → s′ .n ≡ s .n → s′ .held ≡ 0 → s′ .crossed ≡ false → stored * s .n ≤ length f′
+-- What is left where the words from 2·n to 4·n are cleared, as many links are held and nothing crossed: notes and marks cleared.
+pub tables-cleared : (s s′ : State) (f f′ h : List ℕ) → s′ .n ≡ s .n → s′ .held ≡ s .held → s′ .crossed ≡ false → stored * s .n ≤ length f′
     → take (2 * s .n) f′ ≡ take (2 * s .n) f → ((i : ℕ) → 2 * s .n ≤ i → i < stored * s .n → getD f′ i 0 ≡ 0)
-    → tablesIn s′ f′ h′ ≡ cleared (s .n) (tablesIn s f h)
-unfolding tablesIn cleared
-tables-cleared s s′ f f′ h h′ n e c b k z =
+    → tablesIn s′ f′ h ≡ clearNotes (s .n) (tablesIn s f h)
+unfolding tablesIn
+tables-cleared s s′ f f′ h n e c b k z =
     rw (n, e, c) (λ i. record {
       parent = section-same (s .n) f 0 f′ (2 * s .n) (omega arith) k i;
       level = section-same (s .n) f 1 f′ (2 * s .n) (omega arith) k i;
       note = zeros-at 2 (omega arith) (omega arith) i;
       mark = zeros-at 3 (omega arith) (omega arith) i;
-      held = [];
+      held = tablesIn s f h .held;
       crossed = false;
     })
   where
