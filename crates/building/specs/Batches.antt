@@ -9,8 +9,18 @@ use lib.ListN.{length, getD}
 use Rattle.state.specs.Layout.{words, stored, heldLinks, heldLink}
 use Rattle.state.specs.Test.{noneTwice}
 use Rattle.state.specs.Call.{fragmentsMost, roomMost}
-use Rattle.building.specs.Index.{flag, Open, Indexed, In, Outside}
+use Rattle.index.specs.Index.{flag, Indexed, In, Outside}
 use Rattle.building.specs.Laws.Scratch.{Blank}
+
+-- As many slots as the largest tables have.
+abbrev pub slotsMost : ℕ
+slotsMost = 393216
+
+-- The slots can be looked at.
+pub record Open (at size : ℕ) (f : List ℕ) : Type 0 where
+  pub some : 0 < size
+  pub few-slots : size ≤ slotsMost
+  pub long : at + size ≤ length f
 
 -- As many classes as the words are spread over.
 abbrev pub classesMost : ℕ

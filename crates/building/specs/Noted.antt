@@ -10,7 +10,7 @@ use lib.Dec.{T, leb}
 use Rattle.rules.specs.Links.{Link, linked}
 use Rattle.state.specs.Layout.{words, linkIn, heldLinks, heldLink}
 use Rattle.state.specs.Call.{fragmentsMost}
-use Rattle.building.specs.Index.{flag, Place, Indexed, In}
+use Rattle.index.specs.Index.{flag, Place, Indexed, In}
 use Rattle.building.specs.Batches.{Sorted}
 use Rattle.building.specs.Pieces.{Ends}
 

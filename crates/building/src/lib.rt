@@ -1,7 +1,6 @@
 // Building: the test of the tables and the pieces of the held links, with which take and close begin, and take.
 mod gathering;
 mod hold;
-mod index;
 mod links;
 mod noted;
 mod pieces;

@@ -10,16 +10,16 @@ ghost use Rattle.state.specs.Call.{roomMost};
 ghost use Rattle.testing.specs.Test.{linksFit};
 ghost use Rattle.building.specs.Gathered.{withPieces};
 ghost use Rattle.building.specs.Pieces.{Pointing};
-ghost use Rattle.building.specs.Index.{Open, Indexed};
-ghost use Rattle.building.specs.Batches.{classesMost, classOf, Batchable, Batches, Recalls, Missable, Misses, Comparable, Sifts, Compares};
+ghost use Rattle.index.specs.Index.{Indexed};
+ghost use Rattle.building.specs.Batches.{Open, classesMost, classOf, Batchable, Batches, Recalls, Missable, Misses, Comparable, Sifts, Compares};
 ghost use Rattle.building.specs.Check.{linkFits, pieceFits, Tells, Lookable, Readable};
-use crate::index::look;
 use crate::noted::NOTED;
 use crate::pieces::LINKS;
 use crate::pieces::POINTER;
 use crate::pieces::SIZE;
 use crate::pieces::gather;
 use crate::pieces::shorten;
+use index::look;
 use state::State;
 use state::clear;
 use state::wide;
@@ -119,7 +119,7 @@ fn note_batch(
             i += 1;
             continue;
         }
-        let s = look(frag, at, size, w);
+        let s = look(frag, at, size as u32, w);
         if s == size {
             return i;
         }
@@ -136,7 +136,7 @@ fn is_noted(frag: &[u32], at: usize, size: usize, w: u32) -> bool
     requires { ⌜ Open at size (now frag) × Indexed at size (now frag) ⌝ }
     ensures { λ r. ⌜ Recalls at size (now (frag .entry)) w r ⌝ }
 {
-    let s = look(frag, at, size, w);
+    let s = look(frag, at, size as u32, w);
     if s == size {
         return false;
     }

@@ -1,13 +1,13 @@
 // Links noted in sections 7 to 15 while a block is told, each with whether it is held: a link told again is not looked for in the held table.
-ghost use Prim.Native.Nat.{_*_, _≤_, min, max};
+ghost use Prim.Native.Nat.{_*_, _≤_, _<_, min, max};
+ghost use mathlib.Core.Path.{_≡_};
 ghost use lib.ListN.{length};
-ghost use Rattle.state.specs.Layout.{linkIn, heldLinks};
+ghost use Rattle.state.specs.Layout.{radix, linkIn, wordOf, heldLinks};
 ghost use Rattle.building.specs.Pieces.{Ends};
 ghost use Rattle.building.specs.Noted.{Noted, Apart, Askable, Answers, Flags, Learnable, Flaggable, Addable, Stands, Fresh, Anew, Matching, Unnoted};
-use crate::index::FLAG;
-use crate::index::look;
-use crate::index::word_of;
 use crate::links::is_among;
+use index::FLAG;
+use index::look;
 use lists::Link;
 use state::State;
 use state::clear;
@@ -15,13 +15,21 @@ use state::clear;
 // The first section of the index.
 pub(crate) const NOTED: usize = 7;
 
+// The word of a link, the smaller end in the high part.
+fn word_of(a: usize, b: usize) -> u32
+    requires { ⌜ (a < radix) × (b < radix) ⌝ }
+    ensures { λ r. ⌜ r ≡ wordOf (min a b, max a b) ⌝ }
+{
+    tables::word_of(a, b)
+}
+
 // A word as it stands, 0 where it is not noted.
 fn standing(frag: &[u32], n: usize, w: u32) -> u32
     requires { ⌜ Flaggable n w (now frag) ⌝ }
     ensures { λ r. ⌜ Stands n w (now (frag .entry)) r ⌝ }
 {
     let size = 9 * n - 1;
-    let i = look(frag, NOTED * n, size, w);
+    let i = look(frag, NOTED * n, size as u32, w);
     if i == size {
         return 0;
     }
@@ -53,7 +61,7 @@ fn set_flag(frag: &mut [u32], n: usize, w: u32)
     ensures { λ r. ⌜ Flags n (linkIn w) (now (frag .entry)) (now (frag .exit)) ⌝ }
 {
     let size = 9 * n - 1;
-    let i = look(frag, NOTED * n, size, w);
+    let i = look(frag, NOTED * n, size as u32, w);
     if i == size {
         // No slot is left: not every held link is noted.
         frag[NOTED * n + size] = 0;
@@ -113,7 +121,7 @@ fn note_one(frag: &mut [u32], n: usize, a: usize, b: usize) -> usize
     }
     let w = word_of(a, b);
     let size = 9 * n - 1;
-    let i = look(frag, NOTED * n, size, w);
+    let i = look(frag, NOTED * n, size as u32, w);
     if i == size {
         return 4 * n;
     }

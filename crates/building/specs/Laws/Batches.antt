@@ -22,11 +22,14 @@ use Rattle.state.specs.Laws.Clear.{wiped-back}
 use Rattle.state.specs.Laws.Lists.{drop-take}
 use Rattle.building.specs.Pieces.{Gatherable}
 use Rattle.building.specs.Check.{Lookable}
-use Rattle.building.specs.Index.{flag, Place, Indexed, In, Outside}
-use Rattle.building.specs.Batches.{classOf, classesMost, Differ, Twice, Batchable, Batch, Batches, Recalls, Misses, Sorted, Comparable, Sifts, Compares}
+use Rattle.index.specs.Index.{flag, Place, Indexed, In, Outside}
+use Rattle.building.specs.Batches.{slotsMost, Open, classOf, classesMost, Differ, Twice, Batchable, Batch, Batches, Recalls, Misses, Sorted, Comparable, Sifts, Compares}
 use Rattle.building.specs.Laws.Scratch.{Blank, blank-at}
 use Rattle.building.specs.Laws.Check.{left, left-whole, left-none, left-next, links-gatherable}
-use Rattle.building.specs.Laws.Index.{high-part, home-in, not-noted, is-noted, indexed-none, set-indexed, outside-none}
+use Rattle.index.specs.Laws.Index.{high-part, home-in, not-noted, is-noted, indexed-none, set-indexed, outside-none}
+
+pub indexed-open : {at size : ℕ} {f : List ℕ} → 0 < size → size ≤ slotsMost → Indexed at size f → Open at size f
+indexed-open s l I = record { some = s; few-slots = l; long = I .long }
 
 -- A class is one of the classes.
 class-in : (classes w : ℕ) → 0 < classes → classOf classes w < classes

@@ -21,11 +21,11 @@ use Rattle.state.specs.Layout.{wiped, words, linkIn, wordOf, heldLinks}
 use Rattle.state.specs.Laws.Words.{link-word, word-small, word-some}
 use Rattle.state.specs.Call.{fragmentsMost}
 use Rattle.state.specs.Laws.Clear.{wiped-length, wiped-front, wiped-past}
-use Rattle.building.specs.Index.{flag, Place, In}
+use Rattle.index.specs.Index.{flag, Place, In}
 use Rattle.building.specs.Pieces.{Ends}
 use Rattle.building.specs.Noted.{slotAt, linkAt, wholeAt, Whole, Noted, Apart, Askable, Flags, Learnable, Flaggable, Stands, Fresh, Matching, Unnoted}
 use Rattle.building.specs.Laws.Scratch.{wiped-within}
-use Rattle.building.specs.Laws.Index.{indexed-none, indexed-same, not-noted, is-noted, one-slot, set-indexed}
+use Rattle.index.specs.Laws.Index.{indexed-none, indexed-same, not-noted, is-noted, one-slot, set-indexed}
 use Rattle.building.specs.Laws.Batches.{one-word}
 
 pub noted-none : (n : ℕ) (held : List Link) (f : List ℕ) → words * n ≤ length f → ((i : ℕ) → 7 * n ≤ i → i < words * n → getD f i 0 ≡ 0) → Noted n held f

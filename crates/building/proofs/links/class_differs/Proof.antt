@@ -5,8 +5,7 @@ use mathlib.Core.Path.{ap, _∙_}
 use native.Mathlib.Omega.{arith}
 use borrow.Author.Tests.{not-true, not-false}
 use lib.ListN.{length}
-use Rattle.building.specs.Laws.Index.{indexed-open}
-use Rattle.building.specs.Laws.Batches.{noted-twice, batchable, Compared, compared-none, compared-all, compared-twice, compared-more}
+use Rattle.building.specs.Laws.Batches.{indexed-open, noted-twice, batchable, Compared, compared-none, compared-all, compared-twice, compared-more}
 use Rattle.building.proofs.links.class_differs.Statement.{statement}
 use Rattle.building.proofs.links.class_differs.Tie as tie
 

@@ -6,9 +6,6 @@ use Rattle.building.specs.Laws.Batches.{recalls-empty, recalls-word}
 use Rattle.building.proofs.links.is_noted.Statement.{statement}
 use Rattle.building.proofs.links.is_noted.Tie as tie
 
-look-requires : tie.Need-look-requires
-look-requires c κs = c .before .pre .0
-
 returns : tie.Need-returns
 returns c = recalls-empty (c .before .before .before .pre .1) (c .before .look .ensures) (λ l. absurd (omega (arith, c .if1 .taken)))
 
@@ -18,4 +15,4 @@ returns-2 c = recalls-word (c .before .before .before .before .pre .1) (c .befor
 pub is-noted-spec : {M : Type 1} → statement M
 is-noted-spec =
     tie.close
-    (tie.spec look-requires returns (λ c. search needs) (λ c. search needs) (λ c. search needs) returns-2)
+    (tie.spec (λ c. search needs) (λ c κs. search needs) returns (λ c. search needs) (λ c. search needs) (λ c. search needs) returns-2)

@@ -5,8 +5,8 @@ use mathlib.Core.Path.{_∙_}
 use native.Mathlib.Omega.{arith}
 use borrow.Author.Needs.{needs}
 use Rattle.building.specs.Batches.{Batch}
-use Rattle.building.specs.Index.{Outside}
-use Rattle.building.specs.Laws.Index.{indexed-open, outside-none, outside-set}
+use Rattle.index.specs.Index.{Outside}
+use Rattle.index.specs.Laws.Index.{outside-none, outside-set}
 use Rattle.building.specs.Laws.Batches.{batch-none, batch-pass, batch-full, batch-twice, batch-more, batches-stop, batches-twice}
 use Rattle.building.proofs.links.note_batch.Statement.{statement}
 use Rattle.building.proofs.links.note_batch.Tie as tie
@@ -34,8 +34,8 @@ loop-again c =
     let l = c .before .before .before .before .loop in
     (omega arith, omega arith, batch-pass (l .inv .2) (λ m. c .if1 .taken (c .before .class-of .ensures ∙ m)), l .inv .3)
 
-look-requires : tie.Need-look-requires Inv-loop μ-loop
-look-requires c κs = indexed-open (c .before .before .before .before .before .before .before .before .pre .slots .some) (c .before .before .before .before .before .before .before .before .pre .slots .few-slots) (c .before .before .before .before .before .loop .inv .2 .indexed)
+cast-look : tie.Need-cast-look Inv-loop μ-loop
+cast-look c = omega (arith, c .before .before .before .before .before .before .before .before .pre .slots .few-slots)
 
 same-length : tie.Need-same-length Inv-loop μ-loop
 same-length c = c .before .before .before .before .before .before .before .loop .inv .3 .same-long
@@ -101,7 +101,8 @@ note-batch-spec =
     (λ c. search needs)
     (λ c. search needs)
     loop-again
-    look-requires
+    cast-look
+    (λ c κs. search needs)
     same-length
     returns
     add-if3

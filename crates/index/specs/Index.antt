@@ -1,4 +1,4 @@
--- An index of words in a part of a table: `size` slots from word `at` on, 0 where a slot is empty. Definitions only.
+-- An index of words in a part of a table: `size` slots from word `at` on, 0 where a slot is empty or past the table. Definitions only.
 -- Assumes nothing.
 use Prim.Native.Nat.{ℕ, _+_, _-_, _*_, _/_, _%_, _≤_, _<_}
 use mathlib.Core.Path.{_≡_}
@@ -6,23 +6,13 @@ use mathlib.Core.List.{List}
 use mathlib.Core.Logic.{_≢_}
 use lib.ListN.{length, getD, take, drop}
 
--- Added to a word noted whose link is held. The words themselves are below it, and not 0.
+-- What a word noted may have added to it. The words themselves are below it, and not 0.
 abbrev pub flag : ℕ
 flag = 1073741824
-
--- As many slots as the largest tables have.
-abbrev pub slotsMost : ℕ
-slotsMost = 393216
 
 -- The home slot of a word. The last eighth of the slots is room to run on.
 unfoldable pub homeOf : ℕ → ℕ → ℕ
 homeOf size w = w * 2654435769 % 4294967296 * (size - size / 8) / 4294967296
-
--- The slots can be looked at.
-pub record Open (at size : ℕ) (f : List ℕ) : Type 0 where
-  pub some : 0 < size
-  pub few-slots : size ≤ slotsMost
-  pub long : at + size ≤ length f
 
 -- From the home of w to slot i every slot holds another word.
 pub record Way (at size : ℕ) (f : List ℕ) (w i : ℕ) : Type 0 where

@@ -1,15 +1,15 @@
 -- The index of words: the way to a word, that a word found nowhere on its way is not noted, and that a word stored keeps the index.
 -- Assumes nothing.
-use Prim.Native.Nat.{ℕ, suc, _+_, _-_, _*_, _/_, _%_, _≤_, _<_}
+use Prim.Native.Nat.{ℕ, suc, _+_, _-_, _*_, _/_, _%_, _≤_, _<_, min}
 use mathlib.Core.Path.{_≡_, refl, sym, ap, _∙_}
 use mathlib.Core.List.{List}
 use mathlib.Core.Logic.{_≢_}
 use native.Mathlib.Omega.{arith}
 use native.Mathlib.Decide.{ℕ-discrete, decLt}
 use native.Mathlib.Nat.{mul-le-mul-right, lt-of-lt-of-le}
-use lib.ListN.{length, getD, set, length-set}
+use lib.ListN.{length, getD, set, length-set, List·getD-eq-default}
 use lib.Seq.{getD-set-same, getD-set-other, take-set-le, drop-set-lt}
-use Rattle.building.specs.Index.{flag, slotsMost, homeOf, Open, Way, Place, Indexed, In, Outside}
+use Rattle.index.specs.Index.{flag, homeOf, Way, Place, Indexed, In, Outside}
 
 -- The high part of a product is less than its second factor.
 pub high-part : (x m : ℕ) → x < 4294967296 → 0 < m → x * m / 4294967296 < m
@@ -23,8 +23,12 @@ home-in size w s =
     let l : size - size / 8 ≤ size = omega arith in
     lt-of-lt-of-le h l
 
-pub indexed-open : {at size : ℕ} {f : List ℕ} → 0 < size → size ≤ slotsMost → Indexed at size f → Open at size f
-indexed-open s l I = record { some = s; few-slots = l; long = I .long }
+pub home-most : (size w : ℕ) → homeOf size w ≤ size
+unfolding homeOf
+home-most size w = elim (decLt 0 size) [
+  | yes s ↦ let h = home-in size w s in omega arith
+  | no s ↦ let e : size ≡ 0 = omega arith in rw e (omega arith)
+]
 
 -- The way so far.
 module _ {at size : ℕ} {f : List ℕ} {w : ℕ} where
@@ -44,6 +48,14 @@ module _ {at size : ℕ} {f : List ℕ} {w : ℕ} where
     ];
   }
 
+-- The slots end, or the table: past it a slot is empty.
+pub place-end : {at size : ℕ} {f : List ℕ} {w i : ℕ} → i ≤ size → Way at size f w i → min size (length f - at) ≤ i → Place at size f w i
+place-end {at} {f = f} {i = i} l W p = record {
+  in-range = l;
+  way = W;
+  ends = λ h d. absurd (d (List·getD-eq-default f 0 {n = at + i} (omega arith)));
+}
+
 module _ {at size : ℕ} {f : List ℕ} {w i : ℕ} (I : Indexed at size f) (P : Place at size f w i) where
   -- A word whose way ends before it is met is not noted.
   pub not-noted : (i < size → getD f (at + i) 0 ≡ 0) → In at size f w → ⊥
@@ -61,6 +73,21 @@ module _ {at size : ℕ} {f : List ℕ} {w i : ℕ} (I : Indexed at size f) (P :
 
   pub is-noted : i < size → getD f (at + i) 0 ≢ 0 → In at size f w
   is-noted l d = record { slot = i; in-range = l; some = d; is = P .ends l d }
+
+-- No way leads on from where another ends.
+beyond : {at size : ℕ} {f : List ℕ} {w i j : ℕ} → Place at size f w i → Place at size f w j → i < j → ⊥
+beyond {i = i} P Q l =
+    Q .way .other i (P .way .home) l (P .ends (omega (arith, Q .in-range)) (Q .way .filled i (P .way .home) l))
+
+-- A word has one place.
+pub place-decided : {at size : ℕ} {f : List ℕ} {w i j : ℕ} → Place at size f w i → Place at size f w j → i ≡ j
+place-decided {at} {size} {f} {w} {i} {j} P Q = elim (ℕ-discrete i j) [
+  | yes e ↦ e
+  | no d ↦ elim (decLt i j) [
+    | yes l ↦ absurd (beyond P Q l)
+    | no l ↦ absurd (beyond Q P (omega arith))
+  ]
+]
 
 -- A word is noted once.
 pub one-slot : {at size : ℕ} {f : List ℕ} → Indexed at size f → (i j : ℕ) → i < size → j < size → getD f (at + i) 0 ≢ 0 → getD f (at + j) 0 ≢ 0

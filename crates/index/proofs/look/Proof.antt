@@ -1,23 +1,21 @@
--- `building::index::look` meets its contract: every slot on the way holds another word.
+-- `index::look` meets its contract: every slot on the way holds another word.
 -- Assumes nothing.
 use Prim.Native.Nat.{_-_, _≤_}
 use native.Mathlib.Omega.{arith}
 use borrow.Author.Needs.{needs}
-use Rattle.building.specs.Index.{Way}
-use Rattle.building.specs.Laws.Index.{home-in, way-none, way-more}
-use Rattle.building.proofs.index.look.Statement.{statement}
-use Rattle.building.proofs.index.look.Tie as tie
+use Rattle.index.specs.Index.{Way}
+use Rattle.index.specs.Laws.Index.{home-most, way-none, way-more, place-end}
+use Rattle.index.proofs.look.Statement.{statement}
+use Rattle.index.proofs.look.Tie as tie
 
 abbrev Inv-loop : tie.InvT-loop
-Inv-loop frag at size w i₀ i = (i ≤ size) × Way at size frag w i
+Inv-loop words at size w end i₀ i = (i ≤ size) × Way at size words w i
 
 abbrev μ-loop : tie.MeasureT-loop
-μ-loop frag at size w i₀ i = size - i
+μ-loop words at size w end i₀ i = end - i
 
 loop-holds : tie.Need-loop-holds Inv-loop μ-loop
-loop-holds c =
-    let a = c .before .before .args in
-    rw (c .home .ensures) (omega (arith, home-in (a .size) (a .w) (c .before .before .pre .some)), way-none)
+loop-holds c = rw (c .home .ensures) (home-most _ _, way-none)
 
 returns : tie.Need-returns Inv-loop μ-loop
 returns c =
@@ -37,7 +35,7 @@ loop-again c =
 returns-3 : tie.Need-returns-3 Inv-loop μ-loop
 returns-3 c =
     let l = c .before .loop in
-    record { in-range = l .inv .0; way = l .inv .1; ends = λ h d. absurd (omega (arith, c .loop-test .left)) }
+    place-end (l .inv .0) (l .inv .1) (omega arith)
 
 pub look-spec : {M : Type 1} → statement M
 look-spec =
@@ -45,6 +43,7 @@ look-spec =
     (tie.spec
     Inv-loop
     μ-loop
+    (λ c κs. search needs)
     (λ c κs. search needs)
     loop-holds
     (λ c. search needs)
