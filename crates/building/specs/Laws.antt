@@ -5,7 +5,6 @@ pub mod Passed
 pub mod Pieces
 pub mod Gather
 pub mod Gathered
-pub mod Batches
 pub mod Noted
 pub mod Telling
 pub mod Take

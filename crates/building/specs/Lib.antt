@@ -1,6 +1,5 @@
 pub mod Gathered
 pub mod Pieces
-pub mod Batches
 pub mod Noted
 pub mod Telling
 pub mod Check

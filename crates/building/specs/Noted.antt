@@ -11,7 +11,7 @@ use Rattle.rules.specs.Links.{Link, linked}
 use Rattle.state.specs.Layout.{words, linkIn, heldLinks, heldLink}
 use Rattle.state.specs.Call.{fragmentsMost}
 use Rattle.index.specs.Index.{flag, Place, Indexed, In}
-use Rattle.building.specs.Batches.{Sorted}
+use Rattle.differing.specs.Batches.{Sorted}
 use Rattle.building.specs.Pieces.{Ends}
 
 -- The word in slot i of sections 7 to 15, and the link noted there.

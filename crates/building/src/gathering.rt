@@ -3,10 +3,10 @@ ghost use mathlib.Core.Path.{_≡_};
 ghost use Rattle.state.specs.Test.{isBuilding};
 ghost use Rattle.state.specs.Call.{headRefusal};
 ghost use Rattle.building.specs.Gathered.{gatheredIn};
-use crate::links::links_fit;
+use crate::links::pieces_fit;
+use differing::head_but_quota;
 use state::State;
 use state::is_building;
-use testing::head;
 
 // The refusal that is due. Where it is 0 the pieces stand in sections 4 to 6, else the fragment table is as it was found.
 pub fn gathered(s: State, frag: &mut [u32], held: &[u32]) -> u32
@@ -14,11 +14,11 @@ pub fn gathered(s: State, frag: &mut [u32], held: &[u32]) -> u32
 {
     let stage = s.stage;
     let allowed = is_building(stage);
-    let refusal = head(s, allowed, frag, held);
+    let refusal = head_but_quota(s, allowed, frag, held);
     if refusal != 0 {
         return refusal;
     }
-    if !links_fit(frag, held, s.n, s.k, s.held) {
+    if !pieces_fit(frag, held, s.n, s.k, s.held) {
         return 11;
     }
     0

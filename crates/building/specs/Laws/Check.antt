@@ -1,62 +1,33 @@
--- The answers of the test of the held links, link by link and piece by piece, and what they come to.
+-- A link looked for among the held ones, and the quota piece by piece.
 -- Assumes nothing.
-use Prim.Native.Nat.{ℕ, suc, pred, _+_, _-_, _*_, _≤_, _<_}
+use Prim.Native.Nat.{ℕ, pred, _+_, _-_, _*_, _≤_, _<_}
 use mathlib.Core.Path.{_≡_, sym, ap, _∙_}
-use mathlib.Core.Bool.{Bool, true, false, not}
-use mathlib.Core.List.{List, [], _∷_}
+use mathlib.Core.Bool.{Bool, true, false}
+use mathlib.Core.List.{List}
 use native.Mathlib.Omega.{arith}
 use native.Mathlib.Decide.{ℕ-discrete}
 use native.Mathlib.Nat.{mul-le-mul}
-use native.Mathlib.Numerals.{add-one}
 use lib.Dec.{eqb, leb}
-use lib.ListN.{length, getD, drop}
-use lib.Seq.{drop-cons}
+use lib.ListN.{length, getD}
 use borrow.Author.Tests.{eq-eqb, ne-eqb}
 use Rattle.base.specs.Pick.{tests}
 use Rattle.base.specs.Truth.{true-T}
-use Rattle.rules.specs.Links.{Link, between, linked}
-use Rattle.rules.specs.Search.{count, every}
-use Rattle.rules.specs.Tables.{Tables, rank, placed}
+use Rattle.rules.specs.Links.{between, linked}
+use Rattle.rules.specs.Search.{every}
 use Rattle.rules.specs.Building.{pieces, member, sizeOf, heldIn}
 use Rattle.rules.specs.Laws.Pieces.{label-le}
 use Rattle.state.specs.Layout.{forestIn, heldLinks, heldLink}
-use Rattle.state.specs.Test.{asked, endsFit, noneTwice, quotaFits}
+use Rattle.state.specs.Call.{roomMost}
+use Rattle.state.specs.Test.{asked, endsFit, quotaFits}
+use Rattle.state.specs.declared.State.{State}
 use Rattle.state.specs.Laws.Held.{ends-known}
 use Rattle.state.specs.Laws.Tests.{every-none, every-more, every-fails}
-use Rattle.state.specs.declared.State.{State}
 use Rattle.building.specs.Pieces.{Gatherable}
-use Rattle.testing.specs.Test.{linksFit}
-use Rattle.testing.specs.Laws.Fragment.{placed-so, placed-not}
-use Rattle.testing.specs.Laws.Test.{but-room, but-blank}
-use Rattle.testing.specs.Laws.Head.{Headed, headed-bounds}
-use Rattle.building.specs.Check.{linkFits, pieceFits, Tells, Lookable}
-
--- Whether a fragment is unplaced, by its word r.
-loose-is : (t : Tables) (v r : ℕ) (er : r ≡ rank t v) → eqb r 0 ≡ not (placed t v)
-loose-is t v r er = elim (ℕ-discrete r 0) [
-  | yes e ↦ rw (eq-eqb r 0 e, placed-not t v r er e)
-  | no d ↦ rw (ne-eqb r 0 d, placed-so t v r er d)
-]
-
--- A held link's ends.
-module _ (n : ℕ) (t : Tables) (a b : ℕ) where
-  pub link-turned : b ≤ a → false ≡ linkFits n t a b
-  unfolding linkFits
-  link-turned p = simp tests
-
-  module _ (h1 : a < b) where
-    pub link-far : n ≤ b → false ≡ linkFits n t a b
-    unfolding linkFits
-    link-far p = simp tests
-
-    module _ (h2 : b < n) (r : ℕ) (er : r ≡ rank t a) where
-      pub link-placed : (r ≡ 0 → ⊥) → false ≡ linkFits n t a b
-      unfolding linkFits
-      link-placed d = rw (placed-so t a r er d) (simp tests)
-
-      pub link-loose : r ≡ 0 → (q : ℕ) → q ≡ rank t b → eqb q 0 ≡ linkFits n t a b
-      unfolding linkFits
-      link-loose e q eq = rw (placed-not t a r er e, loose-is t b q eq) (simp tests)
+use Rattle.testing.specs.Laws.Head.{head-known}
+use Rattle.differing.specs.Links.{Lookable}
+use Rattle.differing.specs.Laws.Links.{left, left-none, left-next, headed-lookable}
+use Rattle.differing.specs.Laws.Head.{Differing}
+use Rattle.building.specs.Check.{pieceFits, Tells}
 
 -- One link under two names.
 module _ (c d a b : ℕ) where
@@ -79,50 +50,19 @@ module _ (c d a b : ℕ) where
     unfolding between
     same-not g = simp tests
 
--- The links that are left to look at from word i on.
-abbrev pub left : List ℕ → ℕ → ℕ → List Link
-left h to i = heldLinks (to - i) (drop i h)
-
-pub left-whole : (h : List ℕ) (to : ℕ) → left h to 0 ≡ heldLinks to h
-left-whole h to = let e : to - 0 ≡ to = omega arith in rw e
-
-pub left-none : (h : List ℕ) (to i : ℕ) → to ≤ i → left h to i ≡ []
-left-none h to i l = let e : to - i ≡ 0 = omega arith in rw e
-
-module _ (h : List ℕ) (to i : ℕ) (l : i < to) (b : to ≤ length h) (c d : ℕ) (ec : c ≡ heldLink h i .0) (ed : d ≡ heldLink h i .1) where
-  pub left-next : left h to i ≡ (c, d) ∷ left h to (i + 1)
-  left-next =
-      let q : to - i ≡ suc (to - suc i) = omega arith in
-      let pair : heldLink h i ≡ (c, d) = λ j. (sym ec j, sym ed j) in
-      rw (add-one, q, drop-cons h i 0 (omega arith), pair)
-
-  module _ (n : ℕ) (t : Tables) where
-    pub ends-more : true ≡ linkFits n t c d → endsFit n t (left h to (i + 1)) ≡ endsFit n t (left h to i)
-    unfolding endsFit linkFits
-    ends-more e = rw (left-next, ← e)
-
-    pub ends-off : false ≡ linkFits n t c d → false ≡ endsFit n t (left h to i)
-    unfolding endsFit linkFits
-    ends-off e = rw (left-next, ← e)
-
-  module _ (u v : ℕ) where
-    pub among-more : false ≡ between (c, d) u v → linked (left h to (i + 1)) u v ≡ linked (left h to i) u v
-    unfolding linked
-    among-more e = rw (left-next, ← e)
-
-    pub among-hit : true ≡ between (c, d) u v → true ≡ linked (left h to i) u v
-    unfolding linked
-    among-hit e = rw (left-next, ← e)
-
--- Nothing is left.
-module _ (h : List ℕ) (to i : ℕ) (l : to ≤ i) where
-  pub ends-all : (n : ℕ) (t : Tables) → true ≡ endsFit n t (left h to i)
-  unfolding endsFit
-  ends-all n t = rw (left-none h to i l)
-
-  pub among-none : (u v : ℕ) → false ≡ linked (left h to i) u v
+-- A link looked for among those that are left.
+module _ (h : List ℕ) (to i : ℕ) (l : i < to) (b : to ≤ length h) (c d : ℕ) (ec : c ≡ heldLink h i .0) (ed : d ≡ heldLink h i .1) (u v : ℕ) where
+  pub among-more : false ≡ between (c, d) u v → linked (left h to (i + 1)) u v ≡ linked (left h to i) u v
   unfolding linked
-  among-none u v = rw (left-none h to i l)
+  among-more e = rw (left-next h to i l b c d ec ed, ← e)
+
+  pub among-hit : true ≡ between (c, d) u v → true ≡ linked (left h to i) u v
+  unfolding linked
+  among-hit e = rw (left-next h to i l b c d ec ed, ← e)
+
+pub among-none : (h : List ℕ) (to i : ℕ) → to ≤ i → (u v : ℕ) → false ≡ linked (left h to i) u v
+unfolding linked
+among-none h to i l u v = rw (left-none h to i l)
 
 -- The quota of a piece, by the words at p.
 module _ (n k p : ℕ) (f : List ℕ) (h : p < n) where
@@ -164,36 +104,6 @@ module _ (n k : ℕ) (f : List ℕ) where
   unfolding quotaFits pieceFits
   quota-all p e B held g = B held g ∙ ap (λ m. every (pieceFits n k held) m) e
 
--- The held links.
-module _ (n k : ℕ) (t : Tables) (l : List Link) where
-  pub links-ends : false ≡ endsFit n t l → false ≡ linksFit n k t l
-  unfolding linksFit
-  links-ends e = rw (← e)
-
-  module _ (h1 : true ≡ endsFit n t l) where
-    pub links-twice : false ≡ noneTwice l → false ≡ linksFit n k t l
-    unfolding linksFit
-    links-twice e = rw (← h1, ← e)
-
-    pub links-quota : true ≡ noneTwice l → (b : Bool) → b ≡ quotaFits n k l → b ≡ linksFit n k t l
-    unfolding linksFit
-    links-quota e b q = rw (← h1, ← e) q
-
--- Where no refusal is due before them the held links can be looked at.
-pub headed-lookable : {allowed : Bool} {s : State} {f h : List ℕ} → Headed allowed s f h → Lookable (s .n) (s .k) (s .held) f h
-headed-lookable {s = s} {f = f} {h = h} P =
-    let B = headed-bounds P in
-    let few = but-room s f h (P .but-links) in
-    record {
-      few-fragments = B .fragments;
-      some-room = B .some-room;
-      room = B .room;
-      long = B .frag-long;
-      blank = but-blank s f h (P .but-links);
-      few = few;
-      there = omega (arith, B .held-long);
-    }
-
 -- Where their ends fit they can be gathered.
 pub links-gatherable : {n k count : ℕ} {f h : List ℕ} → Lookable n k count f h → true ≡ endsFit n (forestIn n f) (heldLinks count h) → Gatherable n f h count
 links-gatherable {n} {k} {count} {f} {h} L e = record {
@@ -204,3 +114,9 @@ links-gatherable {n} {k} {count} {f} {h} L e = record {
   there = L .there;
   inside = λ u v x. let d = ends-known n (forestIn n f) (heldLinks count h) (true-T (endsFit n (forestIn n f) (heldLinks count h)) (sym e)) u v x in (d .0, d .1);
 }
+
+-- Where no refusal is due before the quota, in a table that is as it was found.
+pub quota-gatherable : {allowed : Bool} {s : State} {f g h : List ℕ} → Differing allowed s f h → g ≡ f → Gatherable (s .n) g h (s .held) × (0 < s .k) × (s .k ≤ roomMost)
+quota-gatherable D q =
+    let L = headed-lookable (head-known _ _ _ _ (D .due)) in
+    (rw q (links-gatherable L (D .ends)), L .some-room, L .room)

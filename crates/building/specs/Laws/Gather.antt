@@ -23,7 +23,7 @@ use Rattle.state.specs.Layout.{words, stored, linkIn, heldLinks, heldLink}
 use Rattle.state.specs.Call.{fragmentsMost}
 use Rattle.state.specs.Laws.Lists.{length-map}
 use Rattle.building.specs.Pieces.{heldMost, Gathered, Kept, LabelIs, Finds, Joinable, Joins, Gatherable, Gathers}
-use Rattle.building.specs.Laws.Scratch.{Blank, blank-at}
+use Rattle.differing.specs.Laws.Scratch.{Blank, blank-at}
 use Rattle.building.specs.Laws.Pieces.{counted, Countable, united, Unitable, kept-refl, kept-trans, kept-set}
 
 -- Stores in the three sections leave the others.

@@ -342,10 +342,10 @@ module _ (s : State) (f h : List ℕ) where
   unfolding gatheredIn
   gathered-is e = simp tests
 
-  -- The test left g, by its answer.
-  module _ (b : Bool) (g : List ℕ) (e : g ≡ pick b (withPieces (s .n) (heldLinks (s .held) h) f) f) where
+  -- The test left g, by its answer, of a table t that is as it was found.
+  module _ (b : Bool) (t g : List ℕ) (same : t ≡ f) (e : g ≡ pick b (withPieces (s .n) (heldLinks (s .held) h) t) t) where
     pub gathered-unsound : b ≡ false → (headRefusal isBuilding s f h ≡ 0 → ⊥) → g ≡ gatheredIn s f h
-    gathered-unsound q d = e ∙ rw q (pick-false _ _) ∙ gathered-not d
+    gathered-unsound q d = e ∙ rw q (pick-false _ _) ∙ same ∙ gathered-not d
 
     pub gathered-sound : b ≡ true → headRefusal isBuilding s f h ≡ 0 → g ≡ gatheredIn s f h
-    gathered-sound q z = e ∙ rw q (pick-true _ _) ∙ gathered-is z
+    gathered-sound q z = e ∙ rw q (pick-true _ _) ∙ ap (withPieces (s .n) (heldLinks (s .held) h)) same ∙ gathered-is z

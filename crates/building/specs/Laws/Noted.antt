@@ -24,9 +24,9 @@ use Rattle.state.specs.Laws.Clear.{wiped-length, wiped-front, wiped-past}
 use Rattle.index.specs.Index.{flag, Place, In}
 use Rattle.building.specs.Pieces.{Ends}
 use Rattle.building.specs.Noted.{slotAt, linkAt, wholeAt, Whole, Noted, Apart, Askable, Flags, Learnable, Flaggable, Stands, Fresh, Matching, Unnoted}
-use Rattle.building.specs.Laws.Scratch.{wiped-within}
+use Rattle.differing.specs.Laws.Scratch.{wiped-within}
 use Rattle.index.specs.Laws.Index.{indexed-none, indexed-same, not-noted, is-noted, one-slot, set-indexed}
-use Rattle.building.specs.Laws.Batches.{one-word}
+use Rattle.differing.specs.Laws.Batches.{one-word}
 
 pub noted-none : (n : ℕ) (held : List Link) (f : List ℕ) → words * n ≤ length f → ((i : ℕ) → 7 * n ≤ i → i < words * n → getD f i 0 ≡ 0) → Noted n held f
 noted-none n held f l z =

@@ -34,7 +34,7 @@ use Rattle.state.specs.Laws.Words.{link-word}
 use Rattle.state.specs.Laws.Layout.{store-note, store-mark, store-held, tables-frag-same}
 use Rattle.building.specs.Pieces.{Ends, heldMost, Gathered, Finds, Joins, Gatherable, Gathers}
 use Rattle.building.specs.Noted.{Noted, Apart, Askable, Answers, Learnable, Unnoted}
-use Rattle.building.specs.Laws.Scratch.{blank-at}
+use Rattle.differing.specs.Laws.Scratch.{blank-at}
 use Rattle.building.specs.Laws.Pieces.{front-at, rest-at, gathered-by}
 use Rattle.building.specs.Laws.Noted.{noted-none, noted-keeps}
 use Rattle.building.specs.Laws.Gather.{link-there}

@@ -5,7 +5,8 @@ use mathlib.Core.Path.{_≡_, refl, sym, _∙_}
 use native.Mathlib.Omega.{arith}
 use borrow.Author.Needs.{needs}
 use Rattle.rules.specs.Links.{linked}
-use Rattle.building.specs.Laws.Check.{left, among-more, among-hit, among-none}
+use Rattle.differing.specs.Laws.Links.{left}
+use Rattle.building.specs.Laws.Check.{among-more, among-hit, among-none}
 use Rattle.building.proofs.links.is_among.Statement.{statement}
 use Rattle.building.proofs.links.is_among.Tie as tie
 

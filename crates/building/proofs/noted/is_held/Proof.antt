@@ -3,7 +3,7 @@
 use mathlib.Core.Path.{ap, _∙_}
 use native.Mathlib.Omega.{arith}
 use Rattle.rules.specs.Links.{linked}
-use Rattle.building.specs.Laws.Check.{left-whole}
+use Rattle.differing.specs.Laws.Links.{left-whole}
 use Rattle.building.specs.Laws.Noted.{apart-none, asked-learnable, word-flaggable, stands-held, stands-not}
 use borrow.Author.Needs.{needs}
 use Rattle.building.proofs.noted.is_held.Statement.{statement}

@@ -1,12 +1,12 @@
--- `building::links::none_noted` meets its contract: none of the words of the class looked up so far is noted.
+-- `differing::twice::none_noted` meets its contract: none of the words of the class looked up so far is noted.
 -- Assumes nothing.
 use Prim.Native.Nat.{_-_, _≤_}
 use mathlib.Core.Path.{_∙_}
 use native.Mathlib.Omega.{arith}
 use borrow.Author.Needs.{needs}
-use Rattle.building.specs.Laws.Batches.{Missed, missed-none, missed-more, misses-one, misses-none}
-use Rattle.building.proofs.links.none_noted.Statement.{statement}
-use Rattle.building.proofs.links.none_noted.Tie as tie
+use Rattle.differing.specs.Laws.Batches.{Missed, missed-none, missed-more, misses-one, misses-none}
+use Rattle.differing.proofs.twice.none_noted.Statement.{statement}
+use Rattle.differing.proofs.twice.none_noted.Tie as tie
 
 abbrev Inv-loop : tie.InvT-loop
 Inv-loop frag held at size from to c classes i₀ i = (from ≤ i) × (i ≤ to) × Missed at size c classes frag held from i

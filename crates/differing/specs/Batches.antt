@@ -10,7 +10,7 @@ use Rattle.state.specs.Layout.{words, stored, heldLinks, heldLink}
 use Rattle.state.specs.Test.{noneTwice}
 use Rattle.state.specs.Call.{fragmentsMost, roomMost}
 use Rattle.index.specs.Index.{flag, Indexed, In, Outside}
-use Rattle.building.specs.Laws.Scratch.{Blank}
+use Rattle.differing.specs.Laws.Scratch.{Blank}
 
 -- As many slots as the largest tables have.
 abbrev pub slotsMost : ℕ

@@ -1,10 +1,10 @@
--- `building::links::link_fits` meets its contract: one law for each answer.
+-- `differing::ends::link_fits` meets its contract: one law for each answer.
 -- Assumes nothing.
 use native.Mathlib.Omega.{arith}
 use borrow.Author.Needs.{needs}
-use Rattle.building.specs.Laws.Check.{link-turned, link-far, link-placed, link-loose}
-use Rattle.building.proofs.links.link_fits.Statement.{statement}
-use Rattle.building.proofs.links.link_fits.Tie as tie
+use Rattle.differing.specs.Laws.Links.{link-turned, link-far, link-placed, link-loose}
+use Rattle.differing.proofs.ends.link_fits.Statement.{statement}
+use Rattle.differing.proofs.ends.link_fits.Tie as tie
 
 returns : tie.Need-returns
 returns c = link-turned _ _ _ _ (omega arith)

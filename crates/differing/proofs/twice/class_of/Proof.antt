@@ -1,13 +1,13 @@
--- `building::links::class_of` meets its contract: the product fits.
+-- `differing::twice::class_of` meets its contract: the product fits.
 -- Assumes nothing.
 use Prim.Native.Nat.{_*_, _%_, _≤_}
 use mathlib.Core.Path.{refl}
 use native.Mathlib.Omega.{arith}
 use native.Mathlib.Nat.{mul-le-mul}
 use borrow.Author.Needs.{needs}
-use Rattle.building.specs.Batches.{classOf}
-use Rattle.building.proofs.links.class_of.Statement.{statement}
-use Rattle.building.proofs.links.class_of.Tie as tie
+use Rattle.differing.specs.Batches.{classOf}
+use Rattle.differing.proofs.twice.class_of.Statement.{statement}
+use Rattle.differing.proofs.twice.class_of.Tie as tie
 
 mul-result : tie.Need-mul-result
 mul-result c =

@@ -20,12 +20,11 @@ use Rattle.state.specs.Layout.{wiped, words, stored, linkIn, forestIn, heldLink
 use Rattle.state.specs.Test.{endsFit, noneTwice}
 use Rattle.state.specs.Laws.Clear.{wiped-back}
 use Rattle.state.specs.Laws.Lists.{drop-take}
-use Rattle.building.specs.Pieces.{Gatherable}
-use Rattle.building.specs.Check.{Lookable}
+use Rattle.differing.specs.Links.{Lookable}
 use Rattle.index.specs.Index.{flag, Place, Indexed, In, Outside}
-use Rattle.building.specs.Batches.{slotsMost, Open, classOf, classesMost, Differ, Twice, Batchable, Batch, Batches, Recalls, Misses, Sorted, Comparable, Sifts, Compares}
-use Rattle.building.specs.Laws.Scratch.{Blank, blank-at}
-use Rattle.building.specs.Laws.Check.{left, left-whole, left-none, left-next, links-gatherable}
+use Rattle.differing.specs.Batches.{slotsMost, Open, classOf, classesMost, Differ, Twice, Batchable, Batch, Batches, Recalls, Misses, Sorted, Comparable, Sifts, Compares}
+use Rattle.differing.specs.Laws.Scratch.{Blank, blank-at}
+use Rattle.differing.specs.Laws.Links.{left, left-whole, left-none, left-next}
 use Rattle.index.specs.Laws.Index.{high-part, home-in, not-noted, is-noted, indexed-none, set-indexed, outside-none}
 
 pub indexed-open : {at size : ℕ} {f : List ℕ} → 0 < size → size ≤ slotsMost → Indexed at size f → Open at size f
@@ -343,7 +342,3 @@ module _ {n k count : ℕ} {f h : List ℕ} (L : Lookable n k count f h) (e : tr
     there = L .there;
     inside = ends-sorted n (forestIn n f) h count (L .there) e;
   }
-
-  -- They can be gathered, in the table that was found again.
-  pub links-gathered-back : {g : List ℕ} → g ≡ f → Gatherable n g h count
-  links-gathered-back q = rw q (links-gatherable L e)

@@ -1,10 +1,10 @@
--- `building::links::is_noted` meets its contract: the way of the word ends at it, or it is not noted.
+-- `differing::twice::is_noted` meets its contract: the way of the word ends at it, or it is not noted.
 -- Assumes nothing.
 use native.Mathlib.Omega.{arith}
 use borrow.Author.Needs.{needs}
-use Rattle.building.specs.Laws.Batches.{recalls-empty, recalls-word}
-use Rattle.building.proofs.links.is_noted.Statement.{statement}
-use Rattle.building.proofs.links.is_noted.Tie as tie
+use Rattle.differing.specs.Laws.Batches.{recalls-empty, recalls-word}
+use Rattle.differing.proofs.twice.is_noted.Statement.{statement}
+use Rattle.differing.proofs.twice.is_noted.Tie as tie
 
 returns : tie.Need-returns
 returns c = recalls-empty (c .before .before .before .pre .1) (c .before .look .ensures) (λ l. absurd (omega (arith, c .if1 .taken)))

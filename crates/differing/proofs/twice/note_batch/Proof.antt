@@ -1,15 +1,15 @@
--- `building::links::note_batch` meets its contract: the words of the class so far are noted, and each finds an empty slot.
+-- `differing::twice::note_batch` meets its contract: the words of the class so far are noted, and each finds an empty slot.
 -- Assumes nothing.
 use Prim.Native.Nat.{_-_, _<_, _≤_}
 use mathlib.Core.Path.{_∙_}
 use native.Mathlib.Omega.{arith}
 use borrow.Author.Needs.{needs}
-use Rattle.building.specs.Batches.{Batch}
+use Rattle.differing.specs.Batches.{Batch}
 use Rattle.index.specs.Index.{Outside}
 use Rattle.index.specs.Laws.Index.{outside-none, outside-set}
-use Rattle.building.specs.Laws.Batches.{batch-none, batch-pass, batch-full, batch-twice, batch-more, batches-stop, batches-twice}
-use Rattle.building.proofs.links.note_batch.Statement.{statement}
-use Rattle.building.proofs.links.note_batch.Tie as tie
+use Rattle.differing.specs.Laws.Batches.{batch-none, batch-pass, batch-full, batch-twice, batch-more, batches-stop, batches-twice}
+use Rattle.differing.proofs.twice.note_batch.Statement.{statement}
+use Rattle.differing.proofs.twice.note_batch.Tie as tie
 
 abbrev Inv-loop : tie.InvT-loop
 Inv-loop frag₀ held at size from to c classes i₀ frag i = (from ≤ i) × (i ≤ to) × Batch at size from i c classes frag held × Outside at size frag₀ frag

@@ -1,13 +1,13 @@
--- `building::links::class_differs` meets its contract: batch by batch, the words of the class before it stand nowhere else.
+-- `differing::twice::class_differs` meets its contract: batch by batch, the words of the class before it stand nowhere else.
 -- Assumes nothing.
 use Prim.Native.Nat.{_-_}
 use mathlib.Core.Path.{ap, _∙_}
 use native.Mathlib.Omega.{arith}
 use borrow.Author.Tests.{not-true, not-false}
 use lib.ListN.{length}
-use Rattle.building.specs.Laws.Batches.{indexed-open, noted-twice, batchable, Compared, compared-none, compared-all, compared-twice, compared-more}
-use Rattle.building.proofs.links.class_differs.Statement.{statement}
-use Rattle.building.proofs.links.class_differs.Tie as tie
+use Rattle.differing.specs.Laws.Batches.{indexed-open, noted-twice, batchable, Compared, compared-none, compared-all, compared-twice, compared-more}
+use Rattle.differing.proofs.twice.class_differs.Statement.{statement}
+use Rattle.differing.proofs.twice.class_differs.Tie as tie
 
 abbrev Inv-loop : tie.InvT-loop
 Inv-loop frag₀ held n count c classes base₀ frag base = Compared n count base c classes frag₀ frag held

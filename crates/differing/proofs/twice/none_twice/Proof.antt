@@ -1,4 +1,4 @@
--- `building::links::none_twice` meets its contract: class by class, the words of those before it stand nowhere else.
+-- `differing::twice::none_twice` meets its contract: class by class, the words of those before it stand nowhere else.
 -- Assumes nothing.
 use Prim.Native.Nat.{_+_, _-_, _*_, _≤_, _<_}
 use mathlib.Core.Path.{ap, _∙_}
@@ -6,10 +6,10 @@ use native.Mathlib.Omega.{arith}
 use borrow.Author.Tests.{not-true, not-false}
 use borrow.Author.Needs.{needs}
 use lib.ListN.{length}
-use Rattle.building.specs.Batches.{classesMost}
-use Rattle.building.specs.Laws.Batches.{few-classes, Sifted, sifted-none, sifted-all, sifted-twice, sifted-more}
-use Rattle.building.proofs.links.none_twice.Statement.{statement}
-use Rattle.building.proofs.links.none_twice.Tie as tie
+use Rattle.differing.specs.Batches.{classesMost}
+use Rattle.differing.specs.Laws.Batches.{few-classes, Sifted, sifted-none, sifted-all, sifted-twice, sifted-more}
+use Rattle.differing.proofs.twice.none_twice.Statement.{statement}
+use Rattle.differing.proofs.twice.none_twice.Tie as tie
 
 abbrev Inv-loop : tie.InvT-loop
 Inv-loop frag₀ held n count classes c₀ frag c = (0 < classes) × (classes ≤ classesMost) × Sifted n count c classes frag₀ frag held

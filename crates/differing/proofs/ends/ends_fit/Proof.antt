@@ -1,4 +1,4 @@
--- `building::links::ends_fit` meets its contract: what is left to look at gives the answer.
+-- `differing::ends::ends_fit` meets its contract: what is left to look at gives the answer.
 -- Assumes nothing.
 use Prim.Native.Nat.{_-_, _≤_}
 use mathlib.Core.Path.{_≡_, sym, ap, _∙_}
@@ -7,9 +7,9 @@ use borrow.Author.Needs.{needs}
 use borrow.Author.Tests.{not-true, not-false}
 use Rattle.state.specs.Layout.{forestIn, heldLinks}
 use Rattle.state.specs.Test.{endsFit}
-use Rattle.building.specs.Laws.Check.{left, left-whole, ends-more, ends-off, ends-all}
-use Rattle.building.proofs.links.ends_fit.Statement.{statement}
-use Rattle.building.proofs.links.ends_fit.Tie as tie
+use Rattle.differing.specs.Laws.Links.{left, left-whole, ends-more, ends-off, ends-all}
+use Rattle.differing.proofs.ends.ends_fit.Statement.{statement}
+use Rattle.differing.proofs.ends.ends_fit.Tie as tie
 
 abbrev Inv-loop : tie.InvT-loop
 Inv-loop frag held n count i₀ i = (i ≤ count) × (endsFit n (forestIn n frag) (left held count i) ≡ endsFit n (forestIn n frag) (heldLinks count held))
