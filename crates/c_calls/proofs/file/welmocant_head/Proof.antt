@@ -1,13 +1,13 @@
 -- `c_calls::file::welmocant_head` meets its contract.
 -- Assumes nothing.
 use mathlib.Core.Path.{sym, _∙_}
-use Rattle.c_calls.specs.Laws.File.{head-bad-size, head-read, head-refused}
+use Rattle.c_calls.specs.Laws.File.{head-no-size, head-read, head-refused}
 use borrow.Author.Needs.{needs}
 use Rattle.c_calls.proofs.file.welmocant_head.Statement.{statement}
 use Rattle.c_calls.proofs.file.welmocant_head.Tie as tie
 
 returns : tie.Need-returns
-returns c = head-bad-size _ (c .before .before .before .before .before .read-number .result) (c .before .before .before .before .before .read-number .ensures) _ _ (c .before .before .before .value .given .1) (sym (c .if1 .taken) ∙ c .before .bad-size .ensures)
+returns c = head-no-size _ (c .before .before .before .before .before .read-number .result) (c .before .before .before .before .before .read-number .ensures) _ _ (c .before .before .before .value .given .1) (sym (c .if1 .taken) ∙ c .before .bad-size .ensures)
 
 returns-2 : tie.Need-returns-2
 returns-2 c = head-read _ (c .before .before .before .before .before .read-number .result) (c .before .before .before .before .before .read-number .ensures) _ _ (c .before .before .before .value .given .1) (sym (c .if1 .left) ∙ c .before .bad-size .ensures)
