@@ -1,7 +1,5 @@
-// Runs document 01's link cases and the cases around them, and lists at random, against the list crate. Each line says the case, what is
-// expected and what was got. What is expected is worked out by hand from document 01.
-mod random;
-
+// Runs document 01's link cases and the cases around them against the list crate. Each line says the case, what is expected and what was got.
+// What is expected is worked out by hand from document 01.
 use lists::Link;
 use lists::Listed;
 use lists::Scanned;
@@ -47,7 +45,7 @@ fn words(s: &[u32]) {
     }
 }
 
-pub fn refusal(number: u32, place: usize) -> Refusal {
+fn refusal(number: u32, place: usize) -> Refusal {
     Refusal {
         number: number,
         place: place,
@@ -405,5 +403,4 @@ fn main() {
     known_writes();
     bad_writes();
     more_writes();
-    random::run();
 }

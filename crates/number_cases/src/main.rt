@@ -1,9 +1,6 @@
-// Runs document 01's byte cases and the cases around them, and numbers at random, against the number crate. Each line says the case, what is
-// expected and what was got. What is expected is worked out by hand from document 01.
+// Runs document 01's byte cases and the cases around them against the number crate. Each line says the case, what is expected and what was got.
+// What is expected is worked out by hand from document 01.
 ghost use Prim.Native.Nat.{_<_};
-
-mod random;
-
 use numbers::Read;
 use numbers::Refusal;
 use numbers::Written;
@@ -196,5 +193,4 @@ fn main() {
     more_writes();
     placed_writes();
     past_writes();
-    random::run();
 }

@@ -4,8 +4,8 @@ use borrow.Author.Needs.{needs}
 use Prim.Native.Nat.{_-_, _≤_}
 use mathlib.Core.Path.{_≡_}
 use lib.ListN.{length}
-use Rattle.list_cases.proofs.random.second.Statement.{statement}
-use Rattle.list_cases.proofs.random.second.Tie as tie
+use Rattle.list_trials.proofs.second.Statement.{statement}
+use Rattle.list_trials.proofs.second.Tie as tie
 
 abbrev Inv-loop : tie.InvT-loop
 Inv-loop n entries s r₀ i₀ i-end r i = (i-end ≡ length s) × (i ≤ i-end)

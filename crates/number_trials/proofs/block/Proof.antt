@@ -4,8 +4,8 @@ use Prim.Native.Nat.{_-_}
 use mathlib.Core.Path.{_≡_}
 use borrow.Author.Needs.{needs}
 use lib.ListN.{length}
-use Rattle.number_cases.proofs.random.block.Statement.{statement}
-use Rattle.number_cases.proofs.random.block.Tie as tie
+use Rattle.number_trials.proofs.block.Statement.{statement}
+use Rattle.number_trials.proofs.block.Tie as tie
 
 abbrev Inv-loop : tie.InvT-loop
 Inv-loop seed s₀ now₀ i₀ i-end s now i = i-end ≡ length s

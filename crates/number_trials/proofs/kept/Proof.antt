@@ -4,8 +4,8 @@ use Prim.Native.Nat.{_-_}
 use mathlib.Core.Path.{_≡_}
 use borrow.Author.Needs.{needs}
 use lib.ListN.{length}
-use Rattle.number_cases.proofs.random.kept.Statement.{statement}
-use Rattle.number_cases.proofs.random.kept.Tie as tie
+use Rattle.number_trials.proofs.kept.Statement.{statement}
+use Rattle.number_trials.proofs.kept.Tie as tie
 
 abbrev Inv-loop : tie.InvT-loop
 Inv-loop s from count i₀ i-end i = i-end ≡ length s

@@ -3,8 +3,8 @@
 use native.Mathlib.Omega.{arith}
 use borrow.Author.Needs.{needs}
 use lib.ListN.{length-take}
-use Rattle.number_cases.proofs.random.write_part.Statement.{statement}
-use Rattle.number_cases.proofs.random.write_part.Tie as tie
+use Rattle.number_trials.proofs.write_part.Statement.{statement}
+use Rattle.number_trials.proofs.write_part.Tie as tie
 
 slice-aggregate-write-number : tie.Need-slice-aggregate-write-number
 slice-aggregate-write-number c = simp length-take (omega arith)

@@ -3,8 +3,8 @@
 use native.Mathlib.Omega.{arith}
 use lib.ListN.{length-take}
 use borrow.Author.Needs.{needs}
-use Rattle.list_cases.proofs.random.parts.Statement.{statement}
-use Rattle.list_cases.proofs.random.parts.Tie as tie
+use Rattle.list_trials.proofs.parts.Statement.{statement}
+use Rattle.list_trials.proofs.parts.Tie as tie
 
 slice-aggregate-cut : tie.Need-slice-aggregate-cut
 slice-aggregate-cut c = simp length-take (omega arith)

@@ -3,8 +3,8 @@
 use borrow.Author.Needs.{needs}
 use Prim.Native.Nat.{_-_, _≤_}
 use lib.ListN.{length}
-use Rattle.list_cases.proofs.random.links_back.Statement.{statement}
-use Rattle.list_cases.proofs.random.links_back.Tie as tie
+use Rattle.list_trials.proofs.links_back.Statement.{statement}
+use Rattle.list_trials.proofs.links_back.Tie as tie
 
 abbrev Inv-loop : tie.InvT-loop
 Inv-loop n words file begins at₀ i₀ at i = i ≤ length words

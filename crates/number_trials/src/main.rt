@@ -3,9 +3,6 @@
 // An answer is one number here: of a refusal its number, and of what was read or written 16 times the next position, and 256 times the value.
 // The places of refusals are compared by the cases that are told one by one.
 ghost use Prim.Native.Nat.{_<_};
-use crate::number;
-use crate::text;
-use crate::wide;
 use numbers::Read;
 use numbers::Written;
 
@@ -39,6 +36,12 @@ fn block(seed: u64, s: &mut [u8]) {
         now = next(now);
         s[i] = byte(now);
     }
+}
+
+fn wide(b: u8) -> u64
+    ensures { λ r. ⌜ r < 256 ⌝ }
+{
+    b as u64
 }
 
 fn byte_at(s: &[u8], i: usize) -> u64
@@ -210,20 +213,23 @@ fn trials(write: bool, one: u64, two: u64) {
 }
 
 fn show(differ: u64, given: u64, one: u64, two: u64) {
-    number(TRIALS as u64);
-    text(b": expected 0 different, got ");
-    number(differ);
-    text(b"\n  each kind of answer more than 1000 times: expected yes, got ");
+    io::print_decimal(1, TRIALS as u64);
+    io::write_all(1, b": expected 0 different, got ");
+    io::print_decimal(1, differ);
+    io::write_all(
+        1,
+        b"\n  each kind of answer more than 1000 times: expected yes, got ",
+    );
     if given > 1000 && one > 1000 && two > 1000 {
-        text(b"yes\n")
+        io::write_all(1, b"yes\n");
     } else {
-        text(b"no\n")
+        io::write_all(1, b"no\n");
     }
 }
 
-pub fn run() {
-    text(b"random reads ");
+fn main() {
+    io::write_all(1, b"random reads ");
     trials(false, 7, 8);
-    text(b"random writes ");
+    io::write_all(1, b"random writes ");
     trials(true, 7, 3);
 }

@@ -3,8 +3,8 @@
 use native.Mathlib.Omega.{arith}
 use lib.ListN.{length-take}
 use borrow.Author.Needs.{needs}
-use Rattle.list_cases.proofs.random.listed.Statement.{statement}
-use Rattle.list_cases.proofs.random.listed.Tie as tie
+use Rattle.list_trials.proofs.listed.Statement.{statement}
+use Rattle.list_trials.proofs.listed.Tie as tie
 
 slice-aggregate-written : tie.Need-slice-aggregate-written
 slice-aggregate-written c = simp length-take (omega arith)

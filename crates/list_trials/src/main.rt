@@ -1,9 +1,6 @@
 // Lists at random, from a fixed seed, written, read back, and damaged: the list crate against a second reading, written here from document
 // 01, which takes the bytes one by one.
 ghost use Prim.Native.Nat.{_≤_};
-use crate::number;
-use crate::refusal;
-use crate::text;
 use lists::Link;
 use lists::Listed;
 use lists::Scanned;
@@ -129,6 +126,13 @@ fn step(r: Reading, n: u32, entries: u32, byte: u8, after: usize) -> Reading {
         start: r.start,
         links: r.links,
         bad: 0,
+    }
+}
+
+fn refusal(number: u32, place: usize) -> Refusal {
+    Refusal {
+        number: number,
+        place: place,
     }
 }
 
@@ -421,16 +425,21 @@ fn trials() -> Tally {
 }
 
 fn often(n: u64) {
-    if n > 100 { text(b" yes") } else { text(b" no") }
+    if n > 100 {
+        io::write_all(1, b" yes");
+    } else {
+        io::write_all(1, b" no");
+    }
 }
 
-pub fn run() {
+fn main() {
     let t = trials();
-    text(b"random lists, written, read back, damaged ");
-    number(TRIALS as u64);
-    text(b": expected 0 different, got ");
-    number(t.differ);
-    text(
+    io::write_all(1, b"random lists, written, read back, damaged ");
+    io::print_decimal(1, TRIALS as u64);
+    io::write_all(1, b": expected 0 different, got ");
+    io::print_decimal(1, t.differ);
+    io::write_all(
+        1,
         b"\n  more than 100 times accepted and refused 4, 5, 7, 8, 12: expected yes yes yes yes yes yes, got",
     );
     often(t.given);
@@ -439,5 +448,5 @@ pub fn run() {
     often(t.seven);
     often(t.eight);
     often(t.twelve);
-    text(b"\n");
+    io::write_all(1, b"\n");
 }

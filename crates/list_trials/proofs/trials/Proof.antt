@@ -2,8 +2,8 @@
 -- Assumes nothing.
 use borrow.Author.Needs.{needs}
 use Prim.Native.Nat.{_-_, _≤_}
-use Rattle.list_cases.proofs.random.trials.Statement.{statement}
-use Rattle.list_cases.proofs.random.trials.Tie as tie
+use Rattle.list_trials.proofs.trials.Statement.{statement}
+use Rattle.list_trials.proofs.trials.Tie as tie
 
 abbrev Inv-loop : tie.InvT-loop
 Inv-loop t₀ seed₀ i₀ t seed i = i ≤ 20000

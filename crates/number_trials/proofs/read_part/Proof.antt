@@ -3,8 +3,8 @@
 use native.Mathlib.Omega.{arith}
 use borrow.Author.Needs.{needs}
 use lib.ListN.{length-take}
-use Rattle.number_cases.proofs.random.read_part.Statement.{statement}
-use Rattle.number_cases.proofs.random.read_part.Tie as tie
+use Rattle.number_trials.proofs.read_part.Statement.{statement}
+use Rattle.number_trials.proofs.read_part.Tie as tie
 
 slice-aggregate-read-number : tie.Need-slice-aggregate-read-number
 slice-aggregate-read-number c = simp length-take (omega arith)

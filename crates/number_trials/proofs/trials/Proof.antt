@@ -4,8 +4,8 @@ use Prim.Native.Nat.{_-_, _≤_}
 use mathlib.Core.Path.{_≡_}
 use borrow.Author.Needs.{needs}
 use lib.ListN.{length}
-use Rattle.number_cases.proofs.random.trials.Statement.{statement}
-use Rattle.number_cases.proofs.random.trials.Tie as tie
+use Rattle.number_trials.proofs.trials.Statement.{statement}
+use Rattle.number_trials.proofs.trials.Tie as tie
 
 abbrev Inv-loop : tie.InvT-loop
 Inv-loop write one two met₀ seed₀ i₀ met seed i = (i ≤ 20000) × (length met ≡ 16)

@@ -3,8 +3,8 @@
 use native.Mathlib.Omega.{arith}
 use lib.ListN.{length-take}
 use borrow.Author.Needs.{needs}
-use Rattle.list_cases.proofs.random.written.Statement.{statement}
-use Rattle.list_cases.proofs.random.written.Tie as tie
+use Rattle.list_trials.proofs.written.Statement.{statement}
+use Rattle.list_trials.proofs.written.Tie as tie
 
 slice-aggregate-read-back : tie.Need-slice-aggregate-read-back
 slice-aggregate-read-back c = simp length-take (omega arith)
