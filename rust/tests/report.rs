@@ -80,6 +80,7 @@ fn sound_files() {
     assert_eq!(printed("none", None), "no file\n");
     let six = "fragments 4 links 4 passes 1\n0 parent 0 piece 0 cut yes\n1 parent 0 piece 0 cut no\n2 parent 1 piece 0 cut no\n3 parent 0 piece 0 cut no\nsole 0 3\n";
     assert_eq!(printed("six", Some(&[4, 0, 1, 0, 2, 0, 3, 1, 2])), six);
+    assert_eq!(printed("five", Some(&[4, 0, 1, 2, 2, 0, 3])), "refused 5 at 3\n");
     let mut dice = Dice::new(11);
     for round in 0..60 {
         let n = [1, 2, 5, 40, 130, 512][round % 6];

@@ -1,4 +1,0 @@
-// Prints the report on the file links.sev.
-fn main() {
-    telling::print_report();
-}
