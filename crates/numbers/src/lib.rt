@@ -39,11 +39,11 @@ fn no_number(number: u32) -> Read
 }
 
 // Refuses to write, at no place.
-pub fn not_written(number: u32) -> Written
-    ensures { λ r. ⌜ toldEnd r ≡ refuses number 0 ⌝ }
+pub fn not_written(refusal: u32) -> Written
+    ensures { λ r. ⌜ toldEnd r ≡ refuses refusal 0 ⌝ }
 {
     Written::Refused(Refusal {
-        number: number,
+        number: refusal,
         place: 0,
     })
 }
