@@ -1,5 +1,5 @@
-// Runs document 01's link cases and the cases around them against the list crate. Each line says the case, what is expected and what was got.
-// What is expected is worked out by hand from document 01.
+// Runs document 01's link cases and the cases around them against the crates `lists` and `writing`. Each line says the case, what is expected
+// and what was got. What is expected is worked out by hand from document 01.
 use lists::Link;
 use lists::Listed;
 use lists::Scanned;
@@ -176,7 +176,7 @@ fn write_case(n: u32, links: &[u32], room: usize, expected: Written, after: &[u8
 
 fn write_into(n: u32, links: &[u32], buffer: &mut [u8], room: usize) {
     if room <= buffer.len() {
-        let w = lists::write_list(n, links, &mut buffer[..room]);
+        let w = writing::write_list(n, links, &mut buffer[..room]);
         show_written(b", got", w, &buffer[..room]);
     }
 }

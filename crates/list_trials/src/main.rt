@@ -1,4 +1,4 @@
-// Lists at random, from a fixed seed, written, read back, and damaged: the list crate against a second reading, written here from document
+// Lists at random, from a fixed seed, written, read back, and damaged: `lists` and `writing` against a second reading, written here from document
 // 01, which takes the bytes one by one.
 ghost use Prim.Native.Nat.{_≤_};
 use lists::Link;
@@ -331,7 +331,7 @@ fn read_back(n: u32, words: &[u32], file: &[u8]) -> bool {
 }
 
 fn written(n: u32, words: &[u32], buffer: &mut [u8], seed: u64) -> u32 {
-    match lists::write_list(n, words, buffer) {
+    match writing::write_list(n, words, buffer) {
         Written::Refused(_) => 99,
         Written::End(end) => {
             if end > buffer.len() {

@@ -3,7 +3,7 @@
 pub mod Numbers
 pub mod Link
 pub mod Block
+pub mod Given
 pub mod Scan
 pub mod File
-pub mod Write
 pub mod Parts

@@ -2,7 +2,6 @@ pub mod List
 pub mod Answers
 pub mod Words
 pub mod Scan
-pub mod Write
 pub mod Laws
 pub mod Theorems
 pub mod Unique

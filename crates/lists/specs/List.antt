@@ -1,4 +1,4 @@
--- What the bytes of a block and of a list file mean, and what the list writer writes: document 01, 'Bytes of a list' and 'Refusal numbers'.
+-- What the bytes of a block and of a list file mean: document 01, 'Bytes of a list' and 'Refusal numbers'.
 -- Assumes nothing.
 use mathlib.Core.Bool.{Bool, _||_}
 use mathlib.Core.List.{List, [], _∷_, _++_}
@@ -7,7 +7,7 @@ use lib.Dec.{leb, ltb, eqb}
 use lib.ListN.{length}
 use Rattle.base.specs.Pick.{pick}
 use Rattle.base.specs.Answer.{Answer, gives, refuses}
-use Rattle.numbers.specs.Number.{readNumber, writtenNumber, Wrote, put}
+use Rattle.numbers.specs.Number.{readNumber, writtenNumber}
 
 -- 'n: 1 to 32,768.'
 abbrev pub fragmentsMost : ℕ
@@ -38,6 +38,10 @@ sized n rest = pick (noSize n) (refuses 1 0) rest
 unfoldable pub joins : {A : Type 0} → (n a b at : ℕ) → Answer A → Answer A
 joins n a b at rest =
     pick (leb n a) (refuses 4 at) (pick (leb n b) (refuses 4 at) (pick (eqb a b) (refuses 5 at) rest))
+
+-- Which of the two it is, or 0.
+unfoldable pub badEnds : (n a b : ℕ) → ℕ
+badEnds n a b = pick (leb n a) 4 (pick (leb n b) 4 (pick (eqb a b) 5 0))
 
 -- '12: the entry would be number 16,777,216 of its pass', where `entries` came before it
 unfoldable pub counts : {A : Type 0} → (entries at : ℕ) → Answer A → Answer A
@@ -134,27 +138,7 @@ cutAt s at = cutIn (length s - at) s at
 unfoldable pub cutBlock : List ℕ → ℕ
 cutBlock s = cutAt s 0
 
--- 'a list writer takes its links as words, two each, and tests 1, then 4 and 5 by first bad link, then 8 for a word left over, then 3'
-unfoldable pub wordLinks : ℕ → List ℕ → Answer (List Link)
-wordLinks n [] = gives []
-wordLinks n (a ∷ []) = refuses 8 0
-wordLinks n (a ∷ b ∷ ws) = joins n a b 0 (before (a, b) (wordLinks n ws))
-
--- The bytes of links, and of a list.
+-- The bytes of links.
 unfoldable pub writtenLinks : List Link → List ℕ
 writtenLinks [] = []
 writtenLinks ((a, b) ∷ ls) = writtenNumber a ++ (writtenNumber b ++ writtenLinks ls)
-
-unfoldable pub writtenList : ℕ → List Link → List ℕ
-writtenList n ls = writtenNumber n ++ writtenLinks ls
-
--- '3: .. a writer's buffer, is too short'. The answer is the position after the list; the bytes past it stay, and on a refusal all of them.
-unfoldable pub storeList : ℕ → List ℕ → Answer (List Link) → Wrote
-storeList n buffer (refuses number place) = record { answer = refuses number place; buffer = buffer }
-storeList n buffer (gives ls) =
-    pick (ltb (length buffer) (length (writtenList n ls)))
-    (record { answer = refuses 3 0; buffer = buffer })
-    (record { answer = gives (length (writtenList n ls)); buffer = put buffer 0 (writtenList n ls) })
-
-unfoldable pub writeList : ℕ → List ℕ → List ℕ → Wrote
-writeList n words buffer = storeList n buffer (sized n (wordLinks n words))

@@ -6,13 +6,9 @@ use lib.Dec.{leb, eqb}
 use lib.ListN.{length}
 use Rattle.base.specs.Pick.{pick}
 use Rattle.base.specs.Answer.{Answer, gives, refuses}
-use Rattle.lists.specs.List.{entriesMost, andThen, linksAt}
+use Rattle.lists.specs.List.{entriesMost, andThen, badEnds, linksAt}
 
--- The refusal that the ends of a link ask for, or 0.
-unfoldable pub badEnds : (n a b : ℕ) → ℕ
-badEnds n a b = pick (leb n a) 4 (pick (leb n b) 4 (pick (eqb a b) 5 0))
-
--- The same with the count of entries.
+-- The refusal that a link whose numbers were read asks for, or 0.
 unfoldable pub badLink : (n entries a b : ℕ) → ℕ
 badLink n entries a b = pick (eqb (badEnds n a b) 0) (pick (leb entriesMost entries) 12 0) (badEnds n a b)
 

@@ -1,5 +1,4 @@
 -- Two answers that meet a promise of this crate are equal: an answer can be had back from what is told of it.
--- (The list writer answers as the number writer does: `wrote-once` of the numbers.)
 -- Assumes nothing.
 use Prim.Native.Nat.{ℕ}
 use mathlib.Core.Path.{_≡_, refl, sym, ap, _∙_}

@@ -13,11 +13,6 @@ abbrev pub Sound : ℕ → List Link → Type 0
 Sound n [] = Unit
 Sound n (l ∷ ls) = (l .0 < n) × (l .1 < n) × (l .0 ≡ l .1 → ⊥) × Sound n ls
 
--- Links as words, two each.
-unfoldable pub wordsOf : List Link → List ℕ
-wordsOf [] = []
-wordsOf ((a, b) ∷ ls) = a ∷ b ∷ wordsOf ls
-
 -- The same answer with its place counted from `by` bytes earlier.
 unfoldable pub shifted : {A : Type 0} → ℕ → Answer A → Answer A
 shifted by (gives a) = gives a

@@ -1,18 +1,11 @@
-// Blocks of links, list files and the list writer. Numbers are read and written through the crate `numbers`, known by its promises only.
+// Blocks of links and list files, read. Numbers are read through the crate `numbers`, known by its promises only.
 ghost use mathlib.Core.Path.{_≡_};
-ghost use mathlib.Core.List.{_++_};
-ghost use lib.ListN.{length};
 ghost use Rattle.base.specs.Answer.{refuses};
-ghost use Rattle.numbers.specs.Number.{writtenNumber, put};
-ghost use Rattle.numbers.specs.Answers.{toldEnd, wrote};
-ghost use Rattle.lists.specs.List.{noSize, readEnds, scanLink, scanBlock, readList, cutBlock, writeList};
-ghost use Rattle.lists.specs.Scan.{badEnds, badLink, scanFrom, scanEnd};
-ghost use Rattle.lists.specs.Write.{answerOr, widthOf, listSize, Fitting, writtenWords, Stored, Room};
+ghost use Rattle.lists.specs.List.{noSize, badEnds, readEnds, scanLink, scanBlock, readList, cutBlock};
+ghost use Rattle.lists.specs.Scan.{badLink, scanFrom, scanEnd};
 ghost use Rattle.lists.specs.Answers.{toldLink, toldCount, toldList};
 use numbers::Read;
 use numbers::Refusal;
-use numbers::Written;
-use numbers::not_written;
 
 // The greatest number of fragments, and of entries in one pass.
 pub const FRAGMENTS_MOST: u32 = 32768;
@@ -57,8 +50,8 @@ pub fn bad_size(n: u32) -> bool
     n == 0 || n > FRAGMENTS_MOST
 }
 
-// What is wrong with the ends of a link: refusal 4 or 5, or nothing, 0.
-fn bad_ends(n: u32, a: u32, b: u32) -> u32
+// What is wrong with the ends of a link, read or to be written: refusal 4 or 5, or nothing, 0.
+pub fn bad_ends(n: u32, a: u32, b: u32) -> u32
     ensures { λ r. ⌜ r ≡ badEnds n a b ⌝ }
 {
     if a >= n {
@@ -212,87 +205,5 @@ pub fn cut(part: &[u8]) -> usize
                 return part.len();
             }
         }
-    }
-}
-
-// Where the writer ended, or `other` where it refused.
-fn end_or(written: Written, other: usize) -> usize
-    ensures { λ r. ⌜ r ≡ answerOr (toldEnd written) other ⌝ }
-{
-    match written {
-        Written::End(end) => end,
-        Written::Refused(_) => other,
-    }
-}
-
-// How many bytes a number takes, and 0 for one that has no form.
-fn width(value: u32) -> usize
-    ensures { λ r. ⌜ r ≡ widthOf value ⌝ }
-{
-    let mut small = [0u8; 8];
-    let written = numbers::write_number(value, &mut small, 0);
-    end_or(written, 0)
-}
-
-// How many bytes the list takes, or what is wrong with it.
-fn list_size(n: u32, words: &[u32]) -> Written
-    ensures { λ r. ⌜ toldEnd r ≡ listSize n (now (words .entry)) ⌝ }
-{
-    if bad_size(n) {
-        return not_written(1);
-    }
-    let mut size = width(n);
-    let mut i: usize = 0;
-    while i + 1 < words.len() {
-        let a = words[i];
-        let b = words[i + 1];
-        let bad = bad_ends(n, a, b);
-        if bad != 0 {
-            return not_written(bad);
-        }
-        size += width(a) + width(b);
-        i += 2;
-    }
-    if i < words.len() {
-        return not_written(8);
-    }
-    Written::End(size)
-}
-
-// Writes a number that there is room for. Returns the position after it.
-fn put_number(value: u32, buffer: &mut [u8], at: usize) -> usize
-    requires { ⌜ Fitting value at (length (now buffer)) ⌝ }
-    ensures { λ r. ⌜ Stored value at (now (buffer .entry)) r (now (buffer .exit)) ⌝ }
-{
-    let written = numbers::write_number(value, buffer, at);
-    end_or(written, at)
-}
-
-// Writes the list that there is room for.
-fn put_list(n: u32, words: &[u32], buffer: &mut [u8])
-    requires { ⌜ Room n (now words) (now buffer) ⌝ }
-    ensures { λ _. ⌜ now (buffer .exit) ≡ put (now (buffer .entry)) 0 (writtenNumber n ++ writtenWords (now (words .entry))) ⌝ }
-{
-    let mut at = put_number(n, buffer, 0);
-    let mut i: usize = 0;
-    while i < words.len() {
-        at = put_number(words[i], buffer, at);
-        i += 1;
-    }
-}
-
-// Writes a list of n fragments, its links as words, two each, to the front of `buffer`.
-pub fn write_list(n: u32, words: &[u32], buffer: &mut [u8]) -> Written
-    ensures { λ r. ⌜ wrote r (now (buffer .exit)) ≡ writeList n (now (words .entry)) (now (buffer .entry)) ⌝ }
-{
-    match list_size(n, words) {
-        Written::End(size) => {
-            if buffer.len() < size {
-                return not_written(3);
-            }
-            put_list(n, words, buffer);
-            Written::End(size)
-        }
-        Written::Refused(bad) => Written::Refused(bad),
     }
 }

@@ -1,6 +1,6 @@
 -- Facts about reading the links of a block one after another.
 -- Assumes nothing.
-use mathlib.Core.Bool.{Bool}
+use mathlib.Core.Bool.{Bool, true, false}
 use mathlib.Core.List.{List, [], _∷_, _++_}
 use mathlib.Core.Logic.{_⊎_, inl, inr}
 use mathlib.Core.Path.{_≡_, refl, sym, ap, _∙_}
@@ -10,9 +10,9 @@ use Prim.Native.Nat.{ℕ, zero, suc, _+_, _-_, _≤_, _<_}
 use lib.Dec.{leb}
 use lib.ListN.{length, length-append}
 use borrow.Author.Tests.{lt-leb}
-use Rattle.base.specs.Pick.{pick, pick-false, tests}
+use Rattle.base.specs.Pick.{pick, pick-true, pick-false, tests}
 use Rattle.base.specs.Answer.{Answer, gives, refuses}
-use Rattle.lists.specs.List.{fragmentsMost, andThen, before, Link, LinkAt, readLink, scanLink, linksIn, linksAt, blockLinks, scanBlock}
+use Rattle.lists.specs.List.{fragmentsMost, andThen, noSize, sized, before, Link, LinkAt, readLink, scanLink, linksIn, linksAt, blockLinks, scanBlock}
 use Rattle.lists.specs.Words.{shifted}
 use Rattle.lists.specs.Laws.Link.{andThen-same, andThen-gives, answered, never-both, sized-gives, sized-within, link-accepted, link-behind, link-more, ahead}
 
@@ -203,3 +203,32 @@ module _ (n : ℕ) (s t : List ℕ) where
   pub links-joined : (e at : ℕ) → at ≤ length s → ((place : ℕ) → linksAt n e s at ≡ refuses 8 place → ⊥)
       → linksAt n e (s ++ t) at ≡ joined (linksAt n e s at) e
   links-joined e at w c = joined-in (length s) e at (omega arith) w c
+
+-- The counts of two blocks' links add up where their links do.
+count-join : (by : ℕ) (f : ℕ → Answer (List Link)) (x : Answer (List Link))
+    → (andThen (andThen x λ ls. andThen (shifted by (f (length ls))) λ ms. gives (ls ++ ms)) λ ls. gives (length ls))
+    ≡ (andThen (andThen x λ ls. gives (length ls)) λ c. andThen (shifted by (andThen (f c) λ ls. gives (length ls))) λ d. gives (c + d))
+unfolding andThen shifted
+count-join by f (refuses number place) = refl
+count-join by f (gives ls) = go (f (length ls))
+  where
+    go : (y : Answer (List Link))
+        → (andThen (andThen (shifted by y) λ ms. gives (ls ++ ms)) λ ls. gives (length ls))
+        ≡ (andThen (shifted by (andThen y λ ls. gives (length ls))) λ d. gives (length ls + d))
+    go (gives ms) = ap gives (length-append ls ms)
+    go (refuses number place) = refl
+
+pub scans-joined : (n e : ℕ) (s t : List ℕ)
+    → blockLinks n e (s ++ t) ≡ joined n s t (blockLinks n e s) e
+    → scanBlock n e (s ++ t) ≡ andThen (scanBlock n e s) λ c. andThen (shifted (length s) (scanBlock n (e + c) t)) λ d. gives (c + d)
+unfolding scanBlock sized andThen
+scans-joined n e s t r = go (noSize n)
+  where
+    go : (b : Bool) → pick b (refuses 1 0) (andThen (blockLinks n e (s ++ t)) λ ls. gives (length ls))
+        ≡ andThen (pick b (refuses 1 0) (andThen (blockLinks n e s) λ ls. gives (length ls))) λ c.
+        andThen (shifted (length s) (pick b (refuses 1 0) (andThen (blockLinks n (e + c) t) λ ls. gives (length ls)))) λ d. gives (c + d)
+    go true = simp pick-true
+    go false =
+        simp pick-false
+        (ap (λ (x : Answer (List Link)). andThen x λ ls. gives (length ls)) r
+        ∙ count-join (length s) (λ k. blockLinks n (e + k) t) (blockLinks n e s))

@@ -6,16 +6,16 @@ use mathlib.Core.Path.{_≡_, refl, sym, ap, _∙_}
 use native.Mathlib.Omega.{arith}
 use native.Mathlib.Decide.{ℕ-discrete, decLe}
 use Prim.Native.Nat.{ℕ, zero, suc, _+_, _-_, _≤_, _<_}
-use lib.ListN.{length, take, length-take}
-use lib.Seq.{take-length}
+use lib.ListN.{length, take, drop, length-take, length-drop, take-append-drop}
+use lib.Seq.{take-length, length-take-le}
 use Rattle.base.specs.Answer.{Answer, gives, refuses}
-use Rattle.numbers.specs.Number.{Numeral, readNumber}
+use Rattle.numbers.specs.Number.{groupsMost, Numeral, readNumber}
 use Rattle.numbers.specs.Words.{seen}
-use Rattle.numbers.specs.Theorems.{number-seen, number-within, number-none}
+use Rattle.numbers.specs.Theorems.{number-seen, number-within, number-short, number-few, number-none}
 use Rattle.lists.specs.List.{andThen, before, LinkAt, readEnds, readLink, linksAt, cutAt}
 use Rattle.lists.specs.Words.{seenSecond, seenLink}
 use Rattle.lists.specs.Laws.Numbers.{given-less, refused-less}
-use Rattle.lists.specs.Laws.Link.{Ends, NoEnds, no-first, no-second, ends-are, ends-are-not, ends-told, ends-within, ends-less, link-is, link-is-not, link-accepted, link-refused, never-both}
+use Rattle.lists.specs.Laws.Link.{Ends, NoEnds, no-first, no-second, ends-are, ends-are-not, ends-told, ends-within, ends-less, ends-behind, no-ends-behind, link-is, link-is-not, link-accepted, link-refused, never-both}
 use Rattle.lists.specs.Laws.Block.{links-go, links-stop, stopped}
 use Rattle.lists.specs.Laws.File.{cut-on, cut-here, cut-all}
 
@@ -35,6 +35,12 @@ link-past s at = go (readNumber s at) refl
     go : (x : Answer Numeral) → readNumber s at ≡ x → at ≤ seenSecond s at x
     go (gives a) e = omega (arith, seen-past s (a .next), number-within s at a e .0)
     go (refuses number place) e = seen-past s at
+
+-- At most the bytes of two numbers.
+pub second-short : (s : List ℕ) (at : ℕ) (x : Answer Numeral) → readNumber s at ≡ x → seenSecond s at x ≤ at + groupsMost + groupsMost
+unfolding seenSecond
+second-short s at (gives a) e = omega (arith, number-few s (a .next), number-short s at a e)
+second-short s at (refuses number place) e = omega (arith, number-few s at)
 
 no-ends-less : (s : List ℕ) (at c number place : ℕ) → (number ≡ 8 → ⊥) → seenLink s at ≤ c → NoEnds s at number place → NoEnds (take c s) at number place
 unfolding seenLink seenSecond
@@ -111,10 +117,27 @@ module _ (s : List ℕ) (at : ℕ) (h : at ≤ length s) where
   cut-past = cut-at s at (λ c. at ≤ c) (λ c place f l d. f) h (suc (length s)) at (omega arith) h (omega arith)
 
   -- Bytes are left behind the cut only where they are the beginning of a link.
-  pub cut-stops : cutAt s at < length s → (place : ℕ) × NoEnds s (cutAt s at) 8 place
+  cut-stops : cutAt s at < length s → (place : ℕ) × NoEnds s (cutAt s at) 8 place
   cut-stops =
       cut-at s at (λ c. c < length s → (place : ℕ) × NoEnds s c 8 place) (λ c place f l d g. (place, d)) (λ g. absurd (omega arith))
       (suc (length s)) at (omega arith) h (omega arith)
+
+  -- They are refused by themselves, at their first byte.
+  pub cut-left : (n e : ℕ) → cutAt s at < length s → linksAt n e (drop (cutAt s at) s) 0 ≡ refuses 8 0
+  cut-left n e g =
+      let c = cutAt s at in
+      let (place, d) = cut-stops g in
+      let u = take-append-drop c s in
+      let v : length (take c s) + 0 ≡ c = rw (length-take-le c s (omega arith)) (omega arith) in
+      let l : 0 < length (drop c s) = rw length-drop (omega arith) in
+      elim (ends-told (drop c s) 0 (readEnds (drop c s) 0) refl) [
+        | inl (m, p, f) ↦ absurd (never-both (rw (u, v) at (ends-are (ends-behind (take c s) f))) (ends-are-not d))
+        | inr (number, q, p, f) ↦
+            let x = (rw (u, v) at (ends-are-not (no-ends-behind (take c s) f))) in
+            let y = ends-are-not d in
+            let z : number ≡ 8 = cc in
+            links-stop n (drop c s) e 0 8 0 l (link-is-not n e (rw z at f))
+      ]
 
 -- No link of the bytes before the cut is cut.
 module _ (n : ℕ) (s : List ℕ) (c : ℕ) where

@@ -8,7 +8,8 @@ use lib.ListN.{length, getD}
 use Rattle.base.specs.Pick.{pick}
 use Rattle.base.specs.Answer.{Answer, gives, refuses}
 use Rattle.numbers.specs.Number.{valueMost, writtenNumber, put}
-use Rattle.lists.specs.List.{andThen, sized, wordLinks, writtenList}
+use Rattle.lists.specs.List.{andThen, sized}
+use Rattle.writing.specs.Write.{wordLinks, writtenList}
 
 -- What was given, or else another number.
 abbrev pub answerOr : Answer ℕ → ℕ → ℕ

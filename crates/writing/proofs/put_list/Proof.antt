@@ -1,12 +1,12 @@
--- `lists::put_list` meets its contract: the words from `i` on, put at `at`, give what all of them give.
+-- `writing::put_list` meets its contract: the words from `i` on, put at `at`, give what all of them give.
 -- Assumes nothing.
 use borrow.Author.Needs.{needs}
 use mathlib.Core.Path.{_∙_}
 use Prim.Native.Nat.{_-_}
 use lib.ListN.{length}
-use Rattle.lists.specs.Laws.Write.{Putting, putting-fits, putting-long, putting-starts, putting-whole, putting-ends, putting-more, putting-on}
-use Rattle.lists.proofs.put_list.Statement.{statement}
-use Rattle.lists.proofs.put_list.Tie as tie
+use Rattle.writing.specs.Laws.Steps.{Putting, putting-fits, putting-long, putting-starts, putting-whole, putting-ends, putting-more, putting-on}
+use Rattle.writing.proofs.put_list.Statement.{statement}
+use Rattle.writing.proofs.put_list.Tie as tie
 
 abbrev Inv-loop : tie.InvT-loop
 Inv-loop n words buffer₀ at₀ i₀ buffer at i = Putting words buffer₀ at₀ i at buffer

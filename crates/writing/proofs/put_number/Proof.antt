@@ -1,9 +1,9 @@
--- `lists::put_number` meets its contract: what the number writer promises where there is room.
+-- `writing::put_number` meets its contract: what the number writer promises where there is room.
 -- Assumes nothing.
-use Rattle.lists.specs.Laws.Write.{stored}
+use Rattle.writing.specs.Laws.Steps.{stored}
 use borrow.Author.Needs.{needs}
-use Rattle.lists.proofs.put_number.Statement.{statement}
-use Rattle.lists.proofs.put_number.Tie as tie
+use Rattle.writing.proofs.put_number.Statement.{statement}
+use Rattle.writing.proofs.put_number.Tie as tie
 
 returns : tie.Need-returns
 returns c = stored (c .before .before .before .before .before .before .pre) _ _ _ (c .before .before .before .write-number .ensures) (c .end-or .ensures)

@@ -14,12 +14,13 @@ use Rattle.base.specs.Pick.{pick-true, pick-false, pick-all, tests}
 use Rattle.base.specs.Answer.{Answer, gives, refuses}
 use Rattle.numbers.specs.Number.{groupsMost, valueMost, writtenNumber, put, Wrote, writeUpTo, writeNumber}
 use Rattle.numbers.specs.Laws.Writing.{groups-few, put-none, length-put}
-use Rattle.lists.specs.List.{fragmentsMost, andThen, before, noSize, sized, Link, wordLinks, writtenLinks, writtenList, storeList, writeList}
-use Rattle.lists.specs.Words.{Sound, wordsOf}
-use Rattle.lists.specs.Write.{answerOr, widthOf, listSize, writtenWords, Fitting, Stored, Room}
+use Rattle.lists.specs.List.{fragmentsMost, andThen, before, noSize, sized, badEnds, Link, writtenLinks}
+use Rattle.lists.specs.Words.{Sound}
 use Rattle.lists.specs.Laws.Link.{never-both, andThen-gives, size-good, sized-gives, joins-gives}
-use Rattle.lists.specs.Scan.{badEnds}
 use Rattle.lists.specs.Laws.Scan.{bad-first, bad-second, joins-bad, joins-good}
+use Rattle.writing.specs.Write.{wordLinks, writtenList, storeList, writeList}
+use Rattle.writing.specs.Words.{wordsOf}
+use Rattle.writing.specs.Steps.{answerOr, widthOf, listSize, writtenWords, Fitting, Stored, Room}
 
 -- A number's bytes are few.
 pub written-few : (v : ℕ) → length (writtenNumber v) ≤ groupsMost

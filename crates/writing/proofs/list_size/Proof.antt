@@ -1,13 +1,13 @@
--- `lists::list_size` meets its contract: the size so far and the words from `i` on give the whole answer.
+-- `writing::list_size` meets its contract: the size so far and the words from `i` on give the whole answer.
 -- Assumes nothing.
 use borrow.Author.Needs.{needs}
 use mathlib.Core.Path.{sym, _∙_}
 use Prim.Native.Nat.{_-_}
 use native.Mathlib.Omega.{arith}
 use lib.ListN.{length}
-use Rattle.lists.specs.Laws.Write.{Sizing, sizing-starts, size-refused, size-bad, size-on, size-odd, size-end, width-bound}
-use Rattle.lists.proofs.list_size.Statement.{statement}
-use Rattle.lists.proofs.list_size.Tie as tie
+use Rattle.writing.specs.Laws.Steps.{Sizing, sizing-starts, size-refused, size-bad, size-on, size-odd, size-end, width-bound}
+use Rattle.writing.proofs.list_size.Statement.{statement}
+use Rattle.writing.proofs.list_size.Tie as tie
 
 abbrev Inv-loop : tie.InvT-loop
 Inv-loop n words size₀ i₀ size i = Sizing n words i size

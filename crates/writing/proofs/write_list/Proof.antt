@@ -1,11 +1,11 @@
--- `lists::write_list` meets its contract: what the size and the bytes put promise, put together.
+-- `writing::write_list` meets its contract: what the size and the bytes put promise, put together.
 -- Assumes nothing.
 use mathlib.Core.Path.{sym, ap, _∙_}
 use Rattle.numbers.specs.Answers.{toldEnd}
-use Rattle.lists.specs.Laws.Write.{write-short, write-room, write-done, write-refused}
+use Rattle.writing.specs.Laws.Steps.{write-short, write-room, write-done, write-refused}
 use borrow.Author.Needs.{needs}
-use Rattle.lists.proofs.write_list.Statement.{statement}
-use Rattle.lists.proofs.write_list.Tie as tie
+use Rattle.writing.proofs.write_list.Statement.{statement}
+use Rattle.writing.proofs.write_list.Tie as tie
 
 returns : tie.Need-returns
 returns c = write-short _ _ _ _ (sym (c .before .before .before .before .before .list-size .ensures) ∙ ap toldEnd (c .before .before .before .size .given .1)) (c .before .if1 .taken) _ (c .not-written .ensures)
