@@ -3,3 +3,4 @@
 pub mod Groups
 pub mod Reading
 pub mod Writing
+pub mod Most

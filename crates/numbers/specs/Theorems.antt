@@ -1,75 +1,55 @@
 -- The laws of numbers, over the definitions alone: what is written is read back, each value has one form, and the reader looks no further
 -- than it says.
 -- Assumes nothing.
-use Prim.Native.Nat.{ℕ, _+_, _-_, _^_, _<_, _≤_}
+use Prim.Native.Nat.{ℕ, _+_, _-_, _<_, _≤_}
 use native.Mathlib.Omega.{arith}
 use native.Mathlib.Decide.{decLt}
 use mathlib.Core.Path.{_≡_, refl, sym, ap, _∙_, subst}
 use mathlib.Core.List.{List, _++_}
 use mathlib.Core.Logic.{_⊎_}
 use lib.ListN.{length, take, drop, length-drop, take-append-drop}
-use lib.Seq.{take-take, take-length, take-append-seam, drop-append-add, drop-drop, drop-at, length-take-le, getD-drop}
-use Rattle.base.specs.Pick.{pick-all, tests}
-use Rattle.base.specs.Answer.{Answer, gives, refuses}
-use Rattle.numbers.specs.Number.{Numeral, groupsMost, valueMost, atMost, readUpTo, readNumber, groupsOf, writtenNumber, put, Wrote, writeNumber}
+use lib.Seq.{take-take, take-length, take-append-seam, drop-append-add, drop-drop, getD-drop}
+use Rattle.base.specs.Answer.{gives, refuses}
+use Rattle.numbers.specs.Number.{Numeral, groupsMost, valueMost, atMost, readUpTo, readNumber, groupsOf, writtenNumber, writeNumber}
 use Rattle.numbers.specs.Words.{Bytes, seenGroups, seen, Whole, moved}
-use Rattle.numbers.specs.Laws.Reading.{group-end}
-use Rattle.numbers.specs.Laws.Writing.{write-far, write-short, write-done}
-use Rattle.numbers.specs.Laws.Groups.{drop-take, Stands, Stopped, Says, stopped, groups-say, groups-only, groups-written, seen-few, seen-within, whole-most, moved-most, moved-groups}
-
--- The greatest value has a form of the greatest number of groups.
-most-fits : valueMost < 128 ^ groupsMost
-most-fits = omega arith
-
--- What an answer says it says behind the test of the greatest value.
-says-most : (most : ℕ) (s : List ℕ) (at : ℕ) (a : Answer Numeral) → Says groupsMost 0 s at a → Says groupsMost 0 s at (atMost most a)
-unfolding atMost
-says-most most s at (gives n) z = pick-all (Says groupsMost 0 s at) _ _ _ (stopped groupsMost s) z
-says-most most s at (refuses number place) z = z
-
-number-says : (s : List ℕ) (at : ℕ) → Says groupsMost 0 (drop at s) at (readNumber s at)
-unfolding readNumber readUpTo
-number-says s at = says-most valueMost (drop at s) at _ (groups-say groupsMost 0 (drop at s) at (omega arith))
+use Rattle.numbers.specs.Laws.Reading.{read-end}
+use Rattle.numbers.specs.Laws.Groups.{drop-take, groups-only, seen-few, seen-within, whole-most, moved-most, moved-groups}
+use Rattle.numbers.specs.Laws.Most.{number-stands, number-stops, up-to-written, up-to-back}
 
 -- A number that is read.
-
 module _ (s : List ℕ) (at : ℕ) (r : Numeral) (e : readNumber s at ≡ gives r) where
-  accepted : Stands groupsMost 0 (drop at s) at r
-  accepted = subst (Says groupsMost 0 (drop at s) at) e (number-says s at)
-
   pub number-seen : seen s at ≡ r .next
   unfolding seen
-  number-seen = sym (accepted .ends)
+  number-seen = sym (number-stands s at r e .ends)
 
   -- It ends past its beginning, inside the bytes, and has at most the greatest number of groups.
   pub number-within : (at < r .next) × (r .next ≤ length s)
   number-within =
+      let a = number-stands s at r e in
       let k = seen-within groupsMost (drop at s) in
       let l = length-drop at s in
-      (omega (arith, accepted .ends, accepted .some), omega (arith, accepted .ends, accepted .some))
+      (omega (arith, a .ends, a .some), omega (arith, a .ends, a .some))
 
   pub number-short : r .next ≤ at + groupsMost
-  number-short = omega (arith, accepted .ends, seen-few groupsMost (drop at s))
+  number-short = omega (arith, number-stands s at r e .ends, seen-few groupsMost (drop at s))
 
   -- Its bytes are what the writer would write.
   pub number-form : Bytes s → drop at s ≡ writtenNumber (r .value) ++ drop (r .next) s
   unfolding writtenNumber
   number-form y =
+      let a = number-stands s at r e in
       let k = seenGroups groupsMost (drop at s) in
-      let f : take k (drop at s) ≡ groupsOf groupsMost (r .value) = accepted .form (λ i. rw getD-drop (y (at + i))) in
-      sym (take-append-drop k (drop at s)) ∙ rw (f, drop-drop, accepted .ends)
+      let f : take k (drop at s) ≡ groupsOf groupsMost (r .value) = a .form (λ i. rw getD-drop (y (at + i))) in
+      sym (take-append-drop k (drop at s)) ∙ rw (f, drop-drop, a .ends)
 
 -- A refusal to read is 7 or 8, at place 0. Of 8, all bytes were looked at.
 module _ (s : List ℕ) (at number place : ℕ) (e : readNumber s at ≡ refuses number place) where
-  refused : Stopped groupsMost (drop at s) number place
-  refused = subst (Says groupsMost 0 (drop at s) at) e (number-says s at)
-
   pub number-refusal : ((number ≡ 7) ⊎ (number ≡ 8)) × (place ≡ 0)
-  number-refusal = (refused .kind, refused .nowhere)
+  number-refusal = let a = number-stops s at number place e in (a .kind, a .nowhere)
 
   pub number-ended : number ≡ 8 → length s ≤ seen s at
   unfolding seen
-  number-ended h = omega (arith, refused .all h, length-drop at s)
+  number-ended h = omega (arith, number-stops s at number place e .all h, length-drop at s)
 
 -- What the reader looks at.
 
@@ -80,8 +60,7 @@ number-few s at = omega (arith, seen-few groupsMost (drop at s))
 
 -- A position at or past the end gives 8.
 pub number-none : (s : List ℕ) (at : ℕ) → length s ≤ at → readNumber s at ≡ refuses 8 0
-unfolding readNumber readUpTo atMost
-number-none s at h = rw (group-end (groupsMost - 1) 0 s at h)
+number-none s at h = sym (read-end s at h)
 
 -- An answer that the end did not decide comes from bytes that are there.
 pub number-there : (s : List ℕ) (at : ℕ) → Whole (readNumber s at) → seen s at ≤ length s
@@ -118,35 +97,11 @@ number-behind s t at = number-moved (length s) (s ++ t) t at (drop-append-add s 
 
 pub number-written : (s : List ℕ) (at v : ℕ) (rest : List ℕ) → v ≤ valueMost → drop at s ≡ writtenNumber v ++ rest
     → readNumber s at ≡ gives (record { value = v; next = at + length (writtenNumber v) })
-unfolding readNumber readUpTo atMost writtenNumber
-number-written s at v rest h e =
-    rw (e, groups-written (groupsMost - 1) 0 v rest at (omega (arith, most-fits)) (omega arith) (omega arith)) (simp tests)
-
-abbrev ReadBack : (v at end : ℕ) → Wrote → Type 0
-ReadBack v at end w = w .answer ≡ gives end → readNumber (w .buffer) at ≡ gives (record { value = v; next = end })
-
-put-read : (v : ℕ) (buffer : List ℕ) (at : ℕ) → v ≤ valueMost → at ≤ length buffer
-    → readNumber (put buffer at (writtenNumber v)) at ≡ gives (record { value = v; next = at + length (writtenNumber v) })
-unfolding put
-put-read v buffer at h l = number-written _ at v _ h (drop-at (take at buffer) _ at (length-take-le at buffer l))
-
-no-gives : {A : Type 0} (number place : ℕ) (a : A) → refuses number place ≡ gives a → ⊥
-no-gives number place a e = let z : _≡_ {A = ℕ} 0 1 = cc in omega arith
-
-read-back : (v : ℕ) (buffer : List ℕ) (at end : ℕ) → ReadBack v at end (writeNumber v buffer at)
-unfolding writeNumber writtenNumber
-read-back v buffer at end =
-    elim (decLt valueMost v) [
-      | yes h ↦ subst (ReadBack v at end) (write-far groupsMost valueMost v buffer at _ refl h) (λ e. absurd (no-gives _ _ _ e))
-      | no h ↦
-          elim (decLt (length buffer) (at + length (groupsOf groupsMost v))) [
-            | yes k ↦ subst (ReadBack v at end) (write-short groupsMost valueMost v buffer at (omega arith) _ refl _ refl k) (λ e. absurd (no-gives _ _ _ e))
-            | no k ↦ subst (ReadBack v at end) (write-done groupsMost valueMost v buffer at (omega arith) _ refl (omega arith) _ refl)
-                (λ e. let p : at + length (writtenNumber v) ≡ end = cc in rw (← p) (put-read v buffer at (omega arith) (omega arith)))
-          ]
-    ]
+unfolding readNumber writtenNumber
+number-written s at v rest h e = up-to-written (groupsMost - 1) valueMost (omega arith) s at v rest h e
 
 -- What the writer leaves in the buffer is read back.
 pub written-read : (v : ℕ) (buffer : List ℕ) (at end : ℕ) → writeNumber v buffer at .answer ≡ gives end
     → readNumber (writeNumber v buffer at .buffer) at ≡ gives (record { value = v; next = end })
-written-read = read-back
+unfolding readNumber writeNumber
+written-read v buffer at end e = up-to-back (groupsMost - 1) valueMost (omega arith) v buffer at end e

@@ -16,7 +16,7 @@ use Rattle.numbers.specs.Laws.Groups.{same-number}
 
 -- One group of `suc further` that are left.
 module _ (further least : ℕ) (s : List ℕ) (at : ℕ) where
-  pub group-end : length s ≤ at → readGroups (suc further) least (drop at s) at ≡ refuses 8 0
+  group-end : length s ≤ at → readGroups (suc further) least (drop at s) at ≡ refuses 8 0
   unfolding readGroups
   group-end h = rw (drop-of-length-le s h)
 
