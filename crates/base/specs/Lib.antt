@@ -1,3 +1,4 @@
 pub mod Pick
 pub mod Answer
+pub mod Link
 pub mod Truth

@@ -5,7 +5,7 @@ use mathlib.Core.Path.{_≡_}
 use mathlib.Core.Bool.{Bool}
 use mathlib.Core.List.{List}
 use lib.Dec.{leb}
-use Rattle.rules.specs.Links.{Link}
+use Rattle.base.specs.Link.{Link}
 use Rattle.rules.specs.Building.{pieces, member, sizeOf, heldIn}
 use Rattle.state.specs.Call.{roomMost}
 use Rattle.state.specs.Test.{asked}

@@ -6,7 +6,7 @@ use mathlib.Core.List.{List, _++_}
 use lib.ListN.{getD, take, drop}
 use lib.Dec.{eqb}
 use Rattle.base.specs.Pick.{pick}
-use Rattle.rules.specs.Links.{Link}
+use Rattle.base.specs.Link.{Link}
 use Rattle.rules.specs.Search.{table}
 use Rattle.rules.specs.Tables.{Tables}
 use Rattle.rules.specs.Building.{pieces, member, sizeOf, heldIn}

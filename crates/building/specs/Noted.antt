@@ -7,7 +7,8 @@ use mathlib.Core.List.{List, [], _∷_, _++_}
 use mathlib.Core.Logic.{_≢_}
 use lib.ListN.{length, getD, take, drop}
 use lib.Dec.{T, leb}
-use Rattle.rules.specs.Links.{Link, linked}
+use Rattle.base.specs.Link.{Link}
+use Rattle.rules.specs.Links.{linked}
 use Rattle.state.specs.Layout.{words, linkIn, heldLinks, heldLink}
 use Rattle.state.specs.Call.{fragmentsMost}
 use Rattle.index.specs.Index.{flag, Place, Indexed, In}

@@ -7,7 +7,7 @@ use mathlib.Core.Logic.{_≢_}
 use lib.ListN.{length, getD, set, take, drop}
 use lib.Dec.{T, eqb}
 use Rattle.base.specs.Pick.{pick}
-use Rattle.rules.specs.Links.{Link}
+use Rattle.base.specs.Link.{Link}
 use Rattle.rules.specs.Building.{pieces, sizeOf, heldIn}
 use Rattle.rules.specs.Laws.Pieces.{Inside}
 use Rattle.state.specs.Layout.{words, stored, heldLinks}

@@ -7,8 +7,8 @@ use mathlib.Core.List.{List}
 use lib.ListN.{length, getD, set, take, drop}
 use lib.Dec.{T, ltb}
 use Rattle.base.specs.Answer.{gives}
+use Rattle.base.specs.Link.{Link}
 use Rattle.lists.specs.List.{linksAt}
-use Rattle.rules.specs.Links.{Link}
 use Rattle.rules.specs.Tables.{Tables, noteOf}
 use Rattle.rules.specs.Building.{pieces, better, hold, holdLink, buildLinks}
 use Rattle.rules.specs.Laws.Facts.{Underway, Loose}

@@ -5,8 +5,9 @@ use mathlib.Core.Path.{_≡_}
 use mathlib.Core.List.{List, [], _∷_, _++_, map}
 use lib.ListN.{length}
 use Rattle.base.specs.Answer.{gives}
+use Rattle.base.specs.Link.{Link}
 use Rattle.lists.specs.List.{blockLinks}
-use Rattle.rules.specs.Links.{Link, Links, Tells}
+use Rattle.rules.specs.Links.{Links, Tells}
 use Rattle.demands.specs.Run.{Call, take, close, openReading}
 
 -- Blocks that, taken one after another where e entries came before, are accepted and add up to a list of links of n fragments.

@@ -11,6 +11,7 @@ use lib.Dec.{T}
 use lib.ListN.{length, drop}
 use Rattle.base.specs.Answer.{Answer, gives}
 use Rattle.base.specs.Truth.{T-dec}
+use Rattle.base.specs.Link.{Link}
 use Rattle.numbers.specs.Number.{readNumber, writtenNumber, Numeral, writeNumber}
 use Rattle.numbers.specs.Words.{Bytes}
 use Rattle.numbers.specs.Theorems.{written-read, number-form}
@@ -19,7 +20,7 @@ use Rattle.lists.specs.List.{andThen, blockLinks}
 use Rattle.lists.specs.Words.{shifted}
 use Rattle.lists.specs.Laws.Link.{never-both}
 use Rattle.lists.specs.Theorems.{blocks-join}
-use Rattle.rules.specs.Links.{Link, Links, linked, SameSet, Tells, Each}
+use Rattle.rules.specs.Links.{Links, linked, SameSet, Tells, Each}
 use Rattle.rules.specs.Forest.{DepthFirst}
 use Rattle.rules.specs.Removal.{PieceIn}
 use Rattle.rules.specs.Tables.{par}

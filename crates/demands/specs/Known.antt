@@ -8,9 +8,10 @@ use lib.ListN.{length, replicate}
 use lib.Dec.{ltb}
 use Rattle.base.specs.Pick.{pick}
 use Rattle.base.specs.Answer.{Answer, gives, refuses}
+use Rattle.base.specs.Link.{Link}
 use Rattle.numbers.specs.Number.{onto, readGroups, atMost, readUpTo, readNumber, groupsOf, writtenNumber}
 use Rattle.lists.specs.List.{andThen, placed as placedAt, joins, counts, readEnds, readLink as readLinkAt, before, linksIn, linksAt, blockLinks, writtenLinks}
-use Rattle.rules.specs.Links.{Link, between, linked, tally}
+use Rattle.rules.specs.Links.{between, linked, tally}
 use Rattle.rules.specs.Forest.{up, depth}
 use Rattle.rules.specs.Search.{count, some, every, first, least, table, listed}
 use Rattle.rules.specs.Tables.{parentOf, rank, noteOf, markOf, placed, par, lev, fresh, place, putNote, putMark, putHeld, putCrossed, cleared}

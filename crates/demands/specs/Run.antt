@@ -5,8 +5,8 @@ use mathlib.Core.Path.{_≡_}
 use mathlib.Core.List.{List, [], _∷_, _++_}
 use Rattle.base.specs.Pick.{pick}
 use Rattle.base.specs.Answer.{Answer, gives, refuses}
+use Rattle.base.specs.Link.{Link}
 use Rattle.lists.specs.List.{blockLinks}
-use Rattle.rules.specs.Links.{Link}
 use Rattle.rules.specs.Tables.{Tables, fresh, clearNotes}
 use Rattle.rules.specs.Building.{buildLinks, passes}
 use Rattle.rules.specs.Reading.{readLinks}

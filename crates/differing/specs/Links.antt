@@ -6,7 +6,7 @@ use mathlib.Core.List.{List}
 use lib.ListN.{length}
 use lib.Dec.{ltb, eqb}
 use Rattle.base.specs.Pick.{pick}
-use Rattle.rules.specs.Links.{Link}
+use Rattle.base.specs.Link.{Link}
 use Rattle.rules.specs.Tables.{Tables, placed}
 use Rattle.state.specs.Layout.{words, forestIn, heldLinks}
 use Rattle.state.specs.Call.{fragmentsMost, roomMost}

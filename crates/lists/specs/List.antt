@@ -7,6 +7,7 @@ use lib.Dec.{leb, ltb, eqb}
 use lib.ListN.{length}
 use Rattle.base.specs.Pick.{pick}
 use Rattle.base.specs.Answer.{Answer, gives, refuses}
+use Rattle.base.specs.Link.{Link}
 use Rattle.numbers.specs.Number.{readNumber, writtenNumber}
 
 -- 'n: 1 to 32,768.'
@@ -46,10 +47,6 @@ badEnds n a b = pick (leb n a) 4 (pick (leb n b) 4 (pick (eqb a b) 5 0))
 -- '12: the entry would be number 16,777,216 of its pass', where `entries` came before it
 unfoldable pub counts : {A : Type 0} → (entries at : ℕ) → Answer A → Answer A
 counts entries at rest = pick (leb entriesMost entries) (refuses 12 at) rest
-
--- 'links, each two fragment numbers (0 to n-1) in either order'
-abbrev pub Link : Type 0
-Link = ℕ × ℕ
 
 -- A link, and the byte after it.
 pub record LinkAt : Type 0 where

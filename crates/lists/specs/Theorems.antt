@@ -7,9 +7,10 @@ use Prim.Native.Nat.{ℕ, _+_, _-_, _≤_, _<_}
 use lib.ListN.{length, take, drop, take-append-drop}
 use lib.Seq.{length-take-le}
 use Rattle.base.specs.Answer.{gives, refuses}
+use Rattle.base.specs.Link.{Link}
 use Rattle.numbers.specs.Number.{readNumber, groupsMost}
 use Rattle.numbers.specs.Words.{Bytes}
-use Rattle.lists.specs.List.{entriesMost, andThen, Link, blockLinks, scanBlock, cutAt, cutBlock, writtenLinks}
+use Rattle.lists.specs.List.{entriesMost, andThen, blockLinks, scanBlock, cutAt, cutBlock, writtenLinks}
 use Rattle.lists.specs.Words.{Sound, shifted, seenLink}
 use Rattle.lists.specs.Laws.Block.{links-joined, scans-joined}
 use Rattle.lists.specs.Laws.Given.{sound-in, form-in}

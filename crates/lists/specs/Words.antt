@@ -4,9 +4,9 @@ use mathlib.Core.List.{List, [], _∷_}
 use mathlib.Core.Path.{_≡_}
 use Prim.Native.Nat.{ℕ, _+_, _<_}
 use Rattle.base.specs.Answer.{Answer, gives, refuses}
+use Rattle.base.specs.Link.{Link}
 use Rattle.numbers.specs.Number.{Numeral, readNumber}
 use Rattle.numbers.specs.Words.{seen}
-use Rattle.lists.specs.List.{Link}
 
 -- Links of a list of n fragments: both ends below n, and not the same.
 abbrev pub Sound : ℕ → List Link → Type 0

@@ -12,11 +12,12 @@ use lib.Seq.{take-take, take-append-seam, length-take-le}
 use Rattle.base.specs.Pick.{pick, pick-true, pick-false}
 use Rattle.base.specs.Answer.{Answer, gives, refuses}
 use Rattle.base.specs.Truth.{T-true}
+use Rattle.base.specs.Link.{Link}
 use Rattle.numbers.specs.Number.{Numeral, readNumber, groupsMost, put}
 use Rattle.numbers.specs.Words.{Whole}
 use Rattle.numbers.specs.Laws.Groups.{drop-take}
 use Rattle.numbers.specs.Theorems.{number-few, number-more, number-ended}
-use Rattle.lists.specs.List.{Link, andThen, blockLinks, cutBlock}
+use Rattle.lists.specs.List.{andThen, blockLinks, cutBlock}
 use Rattle.lists.specs.Words.{shifted}
 use Rattle.lists.specs.Laws.Link.{never-both}
 use Rattle.lists.specs.Theorems.{parts-join, cut-rest, cut-inside}

@@ -6,7 +6,7 @@ use mathlib.Core.Bool.{Bool}
 use mathlib.Core.List.{List, []}
 use lib.ListN.{length, take, drop}
 use Rattle.base.specs.Answer.{Answer, gives, refuses}
-use Rattle.rules.specs.Links.{Link}
+use Rattle.base.specs.Link.{Link}
 use Rattle.rules.specs.Tables.{Tables}
 use Rattle.rules.specs.Reading.{readLinks}
 use Rattle.lists.specs.List.{blockLinks}

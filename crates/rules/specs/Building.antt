@@ -6,7 +6,8 @@ use mathlib.Core.List.{List, [], _∷_, _++_, map}
 use lib.ListN.{getD}
 use lib.Dec.{ltb, eqb}
 use Rattle.base.specs.Pick.{pick}
-use Rattle.rules.specs.Links.{Link, linked, tally}
+use Rattle.base.specs.Link.{Link}
+use Rattle.rules.specs.Links.{linked, tally}
 use Rattle.rules.specs.Search.{count, some, every, first, table}
 use Rattle.rules.specs.Tables.{Tables, parentOf, rank, noteOf, markOf, placed, place, putNote, putMark, putHeld, cleared}
 

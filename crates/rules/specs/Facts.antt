@@ -8,7 +8,8 @@ use mathlib.Core.List.{List, []}
 use mathlib.Core.Logic.{_⊎_, _≢_, _↔_}
 use lib.ListN.{length, getD, replicate}
 use lib.Dec.{T, eqb}
-use Rattle.rules.specs.Links.{Link, Links, linked, tally, between, Among, Joined, JoinedBy}
+use Rattle.base.specs.Link.{Link}
+use Rattle.rules.specs.Links.{Links, linked, tally, between, Among, Joined, JoinedBy}
 use Rattle.rules.specs.Forest.{Above, Over}
 use Rattle.rules.specs.Search.{least}
 use Rattle.rules.specs.Tables.{Tables, parentOf, rank, noteOf, markOf, placed, par, lev}

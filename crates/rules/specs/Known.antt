@@ -8,7 +8,8 @@ use mathlib.Core.List.{List, [], _∷_, _++_, map}
 use lib.ListN.{length}
 use lib.Dec.{ltb}
 use Rattle.base.specs.Pick.{pick}
-use Rattle.rules.specs.Links.{Link, between, linked, tally}
+use Rattle.base.specs.Link.{Link}
+use Rattle.rules.specs.Links.{between, linked, tally}
 use Rattle.rules.specs.Forest.{up, depth}
 use Rattle.rules.specs.Search.{count, some, every, first, least, table, listed}
 use Rattle.rules.specs.Tables.{Tables, parentOf, rank, noteOf, markOf, placed, par, lev, fresh, place, putNote, putMark, putHeld, putCrossed, cleared}

@@ -6,10 +6,7 @@ use mathlib.Core.Bool.{Bool, false, cond, _&&_, _||_}
 use mathlib.Core.List.{List, [], _∷_}
 use mathlib.Core.Logic.{_≢_}
 use lib.Dec.{T, eqb}
-
--- 'links, each two fragment numbers'
-abbrev pub Link : Type 0
-Link = ℕ × ℕ
+use Rattle.base.specs.Link.{Link}
 
 -- 'Links have no direction': the link l is the one between u and v.
 unfoldable pub between : Link → ℕ → ℕ → Bool

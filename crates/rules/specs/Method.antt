@@ -6,7 +6,8 @@ use mathlib.Core.List.{List, [], _∷_, _++_}
 use mathlib.Core.Logic.{_≢_}
 use lib.ListN.{length}
 use lib.Dec.{T}
-use Rattle.rules.specs.Links.{Link, Links, Among, Tells, Each}
+use Rattle.base.specs.Link.{Link}
+use Rattle.rules.specs.Links.{Links, Among, Tells, Each}
 use Rattle.rules.specs.Forest.{DepthFirst}
 use Rattle.rules.specs.Tables.{Tables, placed, par, fresh}
 use Rattle.rules.specs.Building.{buildLink, closeBuilding, done, ceiling}

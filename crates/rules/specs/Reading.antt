@@ -5,7 +5,7 @@ use mathlib.Core.Bool.{Bool, true, _&&_, _||_, not}
 use mathlib.Core.List.{List, [], _∷_}
 use lib.Dec.{ltb, leb, eqb}
 use Rattle.base.specs.Pick.{pick}
-use Rattle.rules.specs.Links.{Link}
+use Rattle.base.specs.Link.{Link}
 use Rattle.rules.specs.Forest.{up}
 use Rattle.rules.specs.Search.{count, some, every, first, least}
 use Rattle.rules.specs.Tables.{Tables, noteOf, markOf, par, lev, putNote, putMark, putCrossed}

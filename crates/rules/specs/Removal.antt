@@ -5,7 +5,8 @@ use mathlib.Core.Bool.{Bool, not, _||_, cond}
 use mathlib.Core.List.{List, [], _∷_}
 use mathlib.Core.Logic.{_≢_}
 use lib.Dec.{T, eqb}
-use Rattle.rules.specs.Links.{Link, Links, between, linked, JoinedBy}
+use Rattle.base.specs.Link.{Link}
+use Rattle.rules.specs.Links.{Links, between, linked, JoinedBy}
 
 -- The entries of a list that pass a test.
 unfoldable pub keep : (Link → Bool) → List Link → List Link

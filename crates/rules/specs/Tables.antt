@@ -5,7 +5,7 @@ use mathlib.Core.Bool.{Bool, false, cond}
 use mathlib.Core.List.{List, []}
 use lib.ListN.{getD, set, replicate}
 use lib.Dec.{ltb}
-use Rattle.rules.specs.Links.{Link}
+use Rattle.base.specs.Link.{Link}
 
 pub record Tables : Type 0 where
   -- the parent of a placed fragment, itself for a root; 0 for an unplaced one

@@ -8,7 +8,8 @@ use mathlib.Core.List.{List, [], _∷_, _++_}
 use mathlib.Core.Logic.{_↔_}
 use lib.ListN.{length, getD}
 use lib.Dec.{T, eqb}
-use Rattle.rules.specs.Links.{Link, Links, Undirected, linked, Among, SameSet, JoinedBy, Tells, Each, Inside}
+use Rattle.base.specs.Link.{Link}
+use Rattle.rules.specs.Links.{Links, Undirected, linked, Among, SameSet, JoinedBy, Tells, Each, Inside}
 use Rattle.rules.specs.Removal.{Sole, Cut, PieceIn, Piece}
 use Rattle.rules.specs.Forest.{up, depth, DepthFirst}
 use Rattle.rules.specs.Search.{count, least}

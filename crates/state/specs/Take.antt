@@ -6,8 +6,8 @@ use mathlib.Core.List.{List}
 use lib.ListN.{length}
 use Rattle.base.specs.Pick.{pick}
 use Rattle.base.specs.Answer.{Answer, gives, refuses}
+use Rattle.base.specs.Link.{Link}
 use Rattle.lists.specs.List.{blockLinks}
-use Rattle.rules.specs.Links.{Link}
 use Rattle.rules.specs.Tables.{Tables}
 use Rattle.rules.specs.Building.{buildLinks}
 use Rattle.rules.specs.Reading.{readLinks}

@@ -7,7 +7,8 @@ use lib.ListN.{take, drop}
 use lib.Dec.{ltb, leb, eqb}
 -- 'Entries in one pass: at most 16,777,215.'
 pub use Rattle.lists.specs.List.{entriesMost}
-use Rattle.rules.specs.Links.{Link, linked}
+use Rattle.base.specs.Link.{Link}
+use Rattle.rules.specs.Links.{linked}
 use Rattle.rules.specs.Search.{count, every}
 use Rattle.rules.specs.Tables.{Tables, parentOf, rank, noteOf, markOf, placed, lev}
 use Rattle.rules.specs.Building.{pieces, member, sizeOf, heldIn, done}

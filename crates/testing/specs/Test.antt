@@ -7,7 +7,7 @@ use mathlib.Core.List.{List}
 use lib.Dec.{ltb, leb, eqb}
 use lib.ListN.{length}
 use Rattle.base.specs.Pick.{pick}
-use Rattle.rules.specs.Links.{Link}
+use Rattle.base.specs.Link.{Link}
 use Rattle.rules.specs.Tables.{Tables, parentOf, noteOf, markOf, placed}
 use Rattle.state.specs.Layout.{tablesIn}
 use Rattle.state.specs.Call.{boundsRefusal}

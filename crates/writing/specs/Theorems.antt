@@ -9,9 +9,10 @@ use lib.ListN.{length, take}
 use lib.Seq.{drop-at}
 use Rattle.base.specs.Pick.{tests}
 use Rattle.base.specs.Answer.{gives}
+use Rattle.base.specs.Link.{Link}
 use Rattle.numbers.specs.Number.{writtenNumber}
 use Rattle.numbers.specs.Theorems.{number-written}
-use Rattle.lists.specs.List.{entriesMost, fragmentsMost, andThen, noSize, sized, Link, blockLinks, fileLinks, writtenLinks}
+use Rattle.lists.specs.List.{entriesMost, fragmentsMost, andThen, noSize, sized, blockLinks, fileLinks, writtenLinks}
 use Rattle.lists.specs.Words.{Sound}
 use Rattle.lists.specs.Laws.Link.{sized-gives}
 use Rattle.writing.specs.Write.{wordLinks, writtenList, writeList}

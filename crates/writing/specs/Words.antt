@@ -2,7 +2,7 @@
 -- Assumes nothing.
 use mathlib.Core.List.{List, [], _∷_}
 use Prim.Native.Nat.{ℕ}
-use Rattle.lists.specs.List.{Link}
+use Rattle.base.specs.Link.{Link}
 
 -- Links as words, two each.
 unfoldable pub wordsOf : List Link → List ℕ

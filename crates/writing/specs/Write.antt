@@ -6,8 +6,9 @@ use lib.Dec.{ltb}
 use lib.ListN.{length}
 use Rattle.base.specs.Pick.{pick}
 use Rattle.base.specs.Answer.{Answer, gives, refuses}
+use Rattle.base.specs.Link.{Link}
 use Rattle.numbers.specs.Number.{writtenNumber, Wrote, put}
-use Rattle.lists.specs.List.{sized, joins, before, Link, writtenLinks}
+use Rattle.lists.specs.List.{sized, joins, before, writtenLinks}
 
 -- 'a list writer takes its links as words, two each, and tests 1, then 4 and 5 by first bad link, then 8 for a word left over, then 3'
 unfoldable pub wordLinks : ℕ → List ℕ → Answer (List Link)

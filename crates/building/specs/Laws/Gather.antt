@@ -11,7 +11,8 @@ use native.Mathlib.Numerals.{add-one}
 use lib.ListN.{length, getD, set, take, length-set, length-append, length-take}
 use lib.Dec.{T}
 use lib.Seq.{getD-set-same, getD-set-other, take-suc}
-use Rattle.rules.specs.Links.{Link, linked, tally}
+use Rattle.base.specs.Link.{Link}
+use Rattle.rules.specs.Links.{linked, tally}
 use Rattle.rules.specs.Search.{count}
 use Rattle.rules.specs.Building.{merged, pieces, member, sizeOf, heldIn}
 use Rattle.rules.specs.Laws.Links.{between-here, linked-nil, linked-head, linked-tail, snoc-cases}

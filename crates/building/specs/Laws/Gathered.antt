@@ -11,7 +11,7 @@ use lib.ListN.{length, getD, set, take, drop, length-set, length-append, length-
 use lib.Seq.{ext-getD, getD-set-same, getD-set-other, getD-take, getD-drop, getD-append-add, take-at}
 use Rattle.base.specs.Pick.{pick, pick-true, pick-false, tests}
 use Rattle.base.specs.Truth.{T-true, T-false}
-use Rattle.rules.specs.Links.{Link}
+use Rattle.base.specs.Link.{Link}
 use Rattle.rules.specs.Search.{table}
 use Rattle.rules.specs.Building.{pieces, member, sizeOf, heldIn}
 use Rattle.rules.specs.Laws.Search.{table-length, table-at, some-count}

@@ -13,9 +13,10 @@ use lib.ListN.{length, getD, set, drop, length-set}
 use lib.Seq.{getD-drop, getD-set-same, getD-set-other, take-set-le, drop-set-lt}
 use Rattle.base.specs.Truth.{T-ext, T-true, T-false}
 use Rattle.base.specs.Answer.{gives}
+use Rattle.base.specs.Link.{Link}
 use Rattle.lists.specs.List.{scanLink}
 use Rattle.lists.specs.Laws.Link.{Accepted, link-told}
-use Rattle.rules.specs.Links.{Link, linked}
+use Rattle.rules.specs.Links.{linked}
 use Rattle.rules.specs.Laws.Links.{between-here, linked-nil, linked-turn, append-left, snoc-cases, snoc-last}
 use Rattle.state.specs.Layout.{wiped, words, linkIn, wordOf, heldLinks}
 use Rattle.state.specs.Laws.Words.{link-word, word-small, word-some}

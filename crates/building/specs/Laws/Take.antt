@@ -11,9 +11,9 @@ use lib.Seq.{drop-drop}
 use Rattle.base.specs.Pick.{pick-true, tests}
 use Rattle.base.specs.Truth.{and-l, and-r, true-T}
 use Rattle.base.specs.Answer.{gives, refuses}
+use Rattle.base.specs.Link.{Link}
 use Rattle.lists.specs.List.{blockLinks, scanBlock}
 use Rattle.lists.specs.Laws.Block.{scan-gives, scan-refuses}
-use Rattle.rules.specs.Links.{Link}
 use Rattle.rules.specs.Tables.{Tables, placed}
 use Rattle.rules.specs.Building.{buildLinks}
 use Rattle.state.specs.Layout.{movedOn, heldLinks, wiped, radix, linkIn, tablesIn, fragOf, heldOf}

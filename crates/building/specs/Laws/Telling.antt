@@ -18,7 +18,8 @@ use Rattle.lists.specs.List.{scanLink, linksAt}
 use Rattle.lists.specs.Laws.Link.{Accepted, link-read, link-told}
 use Rattle.lists.specs.Laws.Block.{links-end, walked, next-given}
 use Rattle.base.specs.Truth.{T-true, T-false}
-use Rattle.rules.specs.Links.{Link, between, linked}
+use Rattle.base.specs.Link.{Link}
+use Rattle.rules.specs.Links.{between, linked}
 use Rattle.rules.specs.Tables.{Tables, rank, noteOf, placed, putMark, putHeld}
 use Rattle.rules.specs.Building.{pieces, better, noteLink, hold, fill, holdLink, buildLink, buildLinks}
 use Rattle.rules.specs.Laws.Facts.{Underway, Loose}

@@ -8,9 +8,9 @@ use lib.ListN.{length}
 use borrow.Author.Tests.{eq-eqb, ne-eqb}
 use Rattle.base.specs.Pick.{pick-true, pick-false}
 use Rattle.base.specs.Answer.{Answer, gives, refuses}
+use Rattle.base.specs.Link.{Link}
 use Rattle.lists.specs.List.{blockLinks}
 use Rattle.lists.specs.Laws.Link.{never-both}
-use Rattle.rules.specs.Links.{Link}
 use Rattle.state.specs.Call.{Begun, Left, leaves}
 use Rattle.state.specs.Take.{takes, taken, takeIn, takeCall}
 use Rattle.state.specs.Close.{Ending, opens, openCall, closeCall}

@@ -14,7 +14,8 @@ use lib.ListN.{length, getD, drop}
 use lib.Seq.{ext-getD}
 use Rattle.base.specs.Pick.{pick-all}
 use Rattle.base.specs.Truth.{and-intro, and-l, and-r, T-ext}
-use Rattle.rules.specs.Links.{Link, linked, JoinedBy, here}
+use Rattle.base.specs.Link.{Link}
+use Rattle.rules.specs.Links.{linked, JoinedBy, here}
 use Rattle.rules.specs.Search.{count}
 use Rattle.rules.specs.Tables.{Tables, parentOf, rank, placed, place}
 use Rattle.rules.specs.Building.{Walk, pieces, member, sizeOf, hang, walked, placePath}

@@ -9,9 +9,10 @@ use lib.Dec.{T}
 use lib.ListN.{length, length-append}
 use Rattle.base.specs.Pick.{pick}
 use Rattle.base.specs.Truth.{or-cases, T-dec}
+use Rattle.base.specs.Link.{Link}
 use Rattle.lists.specs.List.{blockLinks}
 use Rattle.lists.specs.Laws.Link.{answered}
-use Rattle.rules.specs.Links.{Link, linked}
+use Rattle.rules.specs.Links.{linked}
 use Rattle.rules.specs.Forest.{DepthFirst}
 use Rattle.rules.specs.Tables.{par}
 use Rattle.rules.specs.Building.{closeBuilding, done, passes, ceiling, lowerCeiling}

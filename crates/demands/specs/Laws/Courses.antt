@@ -9,7 +9,8 @@ use lib.Dec.{T}
 use lib.ListN.{length, length-append}
 use Rattle.base.specs.Answer.{gives}
 use Rattle.base.specs.Truth.{T-dec, or-l}
-use Rattle.rules.specs.Links.{Link, Links, linked, Tells, Each}
+use Rattle.base.specs.Link.{Link}
+use Rattle.rules.specs.Links.{Links, linked, Tells, Each}
 use Rattle.rules.specs.Forest.{DepthFirst}
 use Rattle.rules.specs.Building.{closeBuilding, done, ceiling}
 use Rattle.rules.specs.Adopting.{parentIn}

@@ -9,10 +9,11 @@ use lib.Dec.{T}
 use lib.ListN.{replicate}
 use Rattle.base.specs.Pick.{pick}
 use Rattle.base.specs.Answer.{gives, refuses}
+use Rattle.base.specs.Link.{Link}
 use Rattle.numbers.specs.Number.{onto, readGroups, atMost, readUpTo, readNumber, groupsOf, writtenNumber, put, writeUpTo, writeNumber}
 use Rattle.lists.specs.List.{andThen, placed as placedAt, joins, counts, readEnds, readLink as readLinkAt, before, linksIn, linksAt, blockLinks, writtenLinks}
 use Rattle.lists.specs.Laws.Link.{never-both}
-use Rattle.rules.specs.Links.{Link, between, linked, tally, SameSet, Tells, Each}
+use Rattle.rules.specs.Links.{between, linked, tally, SameSet, Tells, Each}
 use Rattle.rules.specs.Removal.{PieceIn, Sole}
 use Rattle.rules.specs.Forest.{up, depth, DepthFirst}
 use Rattle.rules.specs.Search.{count, some, every, first, least, table, listed}

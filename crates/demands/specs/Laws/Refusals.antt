@@ -12,11 +12,11 @@ use lib.ListN.{length}
 use Rattle.base.specs.Pick.{pick, pick-true, pick-false, pick-all, tests}
 use Rattle.base.specs.Answer.{Answer, gives, refuses}
 use Rattle.base.specs.Truth.{or-cases, T-dec, T-true, T-false}
+use Rattle.base.specs.Link.{Link}
 use Rattle.numbers.specs.Number.{readNumber}
 use Rattle.numbers.specs.Theorems.{number-refusal}
 use Rattle.lists.specs.List.{andThen, placed, joins, counts, readEnds, readLink, before, linksIn, linksAt, blockLinks}
 use Rattle.lists.specs.Laws.Link.{never-both}
-use Rattle.rules.specs.Links.{Link}
 use Rattle.rules.specs.Tables.{Tables}
 use Rattle.rules.specs.Building.{done}
 use Rattle.rules.specs.Reading.{accepted}

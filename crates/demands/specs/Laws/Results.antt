@@ -9,7 +9,8 @@ use lib.Dec.{T}
 use lib.ListN.{length, length-append}
 use Rattle.base.specs.Answer.{gives, refuses}
 use Rattle.base.specs.Truth.{T-dec}
-use Rattle.rules.specs.Links.{Link, Links, linked, Among, SameSet, Tells, Each}
+use Rattle.base.specs.Link.{Link}
+use Rattle.rules.specs.Links.{Links, linked, Among, SameSet, Tells, Each}
 use Rattle.rules.specs.Removal.{Sole, Cut, PieceIn, Piece}
 use Rattle.rules.specs.Forest.{DepthFirst}
 use Rattle.rules.specs.Tables.{Tables, placed, par, fresh, cleared}

@@ -12,10 +12,11 @@ use borrow.Author.Tests.{ne-eqb}
 use Rattle.base.specs.Pick.{pick, pick-true, pick-false}
 use Rattle.base.specs.Answer.{gives, refuses}
 use Rattle.base.specs.Truth.{or-cases, T-dec, T-true, T-false}
+use Rattle.base.specs.Link.{Link}
 use Rattle.lists.specs.List.{blockLinks}
 use Rattle.lists.specs.Laws.Link.{never-both, answered}
 use Rattle.lists.specs.Theorems.{accepted-sound}
-use Rattle.rules.specs.Links.{Link, linked, Among, Each}
+use Rattle.rules.specs.Links.{linked, Among, Each}
 use Rattle.rules.specs.Tables.{Tables, clearNotes, cleared}
 use Rattle.rules.specs.Building.{buildLinks, closeBuilding, done, pass, passes}
 use Rattle.rules.specs.Reading.{readLinks, accepted}

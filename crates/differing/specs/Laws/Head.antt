@@ -9,7 +9,7 @@ use native.Mathlib.Decide.{ℕ-discrete}
 use lib.Dec.{T}
 use Rattle.base.specs.Pick.{tests}
 use Rattle.base.specs.Truth.{T-dec, T-true, T-false, and-l, and-r}
-use Rattle.rules.specs.Links.{Link}
+use Rattle.base.specs.Link.{Link}
 use Rattle.rules.specs.Tables.{Tables}
 use Rattle.state.specs.Layout.{forestIn, heldLinks}
 use Rattle.state.specs.Test.{isBuilding, endsFit, noneTwice, quotaFits}

@@ -12,7 +12,7 @@ use lib.ListN.{length, drop}
 use lib.Seq.{drop-cons}
 use borrow.Author.Tests.{eq-eqb, ne-eqb}
 use Rattle.base.specs.Pick.{tests}
-use Rattle.rules.specs.Links.{Link}
+use Rattle.base.specs.Link.{Link}
 use Rattle.rules.specs.Tables.{Tables, rank, placed}
 use Rattle.state.specs.Layout.{heldLinks, heldLink}
 use Rattle.state.specs.Test.{endsFit, noneTwice}

@@ -12,7 +12,8 @@ use lib.ListN.{length, length-append}
 use borrow.Author.Tests.{lt-leb}
 use Rattle.base.specs.Pick.{pick, pick-true, pick-false, tests}
 use Rattle.base.specs.Answer.{Answer, gives, refuses}
-use Rattle.lists.specs.List.{fragmentsMost, andThen, noSize, sized, before, Link, LinkAt, readLink, scanLink, linksIn, linksAt, blockLinks, scanBlock}
+use Rattle.base.specs.Link.{Link}
+use Rattle.lists.specs.List.{fragmentsMost, andThen, noSize, sized, before, LinkAt, readLink, scanLink, linksIn, linksAt, blockLinks, scanBlock}
 use Rattle.lists.specs.Words.{shifted}
 use Rattle.lists.specs.Laws.Link.{andThen-same, andThen-gives, answered, never-both, sized-gives, sized-within, link-accepted, link-behind, link-more, ahead}
 

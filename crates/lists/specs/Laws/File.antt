@@ -9,8 +9,9 @@ use Prim.Native.Nat.{ℕ, zero, suc, _-_, _≤_}
 use lib.ListN.{length}
 use Rattle.base.specs.Pick.{pick-true, pick-false, tests}
 use Rattle.base.specs.Answer.{gives, refuses}
+use Rattle.base.specs.Link.{Link}
 use Rattle.numbers.specs.Number.{readNumber}
-use Rattle.lists.specs.List.{noSize, Link, linksAt, andThen, sized, LinkAt, readEnds, readList, fileLinks, cutAfter, cutIn, cutAt}
+use Rattle.lists.specs.List.{noSize, linksAt, andThen, sized, LinkAt, readEnds, readList, fileLinks, cutAfter, cutIn, cutAt}
 use Rattle.numbers.specs.Theorems.{number-none}
 use Rattle.lists.specs.Laws.Link.{no-first, ends-told, Ends, NoEnds, ends-are, ends-are-not, ends-within}
 use Rattle.lists.specs.Laws.Block.{count-gives, count-refuses}

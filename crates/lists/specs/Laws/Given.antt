@@ -7,9 +7,10 @@ use native.Mathlib.Omega.{arith}
 use Prim.Native.Nat.{ℕ, _+_, _-_, _≤_, _<_}
 use lib.ListN.{length, drop, drop-of-length-le}
 use Rattle.base.specs.Answer.{gives}
+use Rattle.base.specs.Link.{Link}
 use Rattle.numbers.specs.Words.{Bytes}
 use Rattle.numbers.specs.Theorems.{number-form}
-use Rattle.lists.specs.List.{entriesMost, Link, linksAt, writtenLinks}
+use Rattle.lists.specs.List.{entriesMost, linksAt, writtenLinks}
 use Rattle.lists.specs.Words.{Sound}
 use Rattle.lists.specs.Laws.Link.{link-accepted}
 use Rattle.lists.specs.Laws.Block.{walked}

@@ -11,8 +11,9 @@ use lib.Dec.{leb, eqb}
 use lib.ListN.{length}
 use Rattle.base.specs.Pick.{pick, tests}
 use Rattle.base.specs.Answer.{Answer, gives, refuses}
+use Rattle.base.specs.Link.{Link}
 use Rattle.numbers.specs.Number.{readNumber}
-use Rattle.lists.specs.List.{entriesMost, noSize, andThen, before, joins, badEnds, counts, Link, LinkAt, readLink, scanLink, linksAt, blockLinks, scanBlock}
+use Rattle.lists.specs.List.{entriesMost, noSize, andThen, before, joins, badEnds, counts, LinkAt, readLink, scanLink, linksAt, blockLinks, scanBlock}
 use Rattle.lists.specs.Scan.{badLink, scanEnd, scanFrom}
 use Rattle.lists.specs.Laws.Link.{sized-past, sized-on, Ends, NoEnds, no-first, no-second, link-is}
 use Rattle.lists.specs.Laws.Block.{links-end, links-go, links-stop}

@@ -9,7 +9,7 @@ use lib.ListN.{length}
 use Rattle.base.specs.Pick.{pick-false}
 use Rattle.base.specs.Truth.{false-T}
 use Rattle.base.specs.Answer.{gives, refuses}
-use Rattle.rules.specs.Links.{Link}
+use Rattle.base.specs.Link.{Link}
 use Rattle.rules.specs.Tables.{Tables}
 use Rattle.rules.specs.Reading.{readLinks}
 use Rattle.lists.specs.List.{blockLinks, scanBlock}

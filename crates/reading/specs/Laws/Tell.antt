@@ -11,7 +11,7 @@ use lib.ListN.{length, getD, set, length-set}
 use lib.Seq.{take-set-le, drop-set-lt}
 use Rattle.base.specs.Pick.{pick-true, pick-false}
 use Rattle.base.specs.Answer.{gives, refuses}
-use Rattle.rules.specs.Links.{Link}
+use Rattle.base.specs.Link.{Link}
 use Rattle.rules.specs.Tables.{par, lev, putCrossed}
 use Rattle.rules.specs.Reading.{above, hear, readLink, readLinks}
 use Rattle.rules.specs.Laws.Tables.{SameForest, same-par, same-lev, same-placed, standing-same}

@@ -12,7 +12,8 @@ use lib.ListN.{length, length-replicate}
 use lib.Seq.{getD-take, length-take-le}
 use borrow.Author.Tests.{eq-eqb, ne-eqb}
 use Rattle.base.specs.Truth.{and-intro, and-l, and-r, eq→eqb}
-use Rattle.rules.specs.Links.{Link, linked, Among}
+use Rattle.base.specs.Link.{Link}
+use Rattle.rules.specs.Links.{linked, Among}
 use Rattle.rules.specs.Forest.{up, depth, Levels, DepthFirst}
 use Rattle.rules.specs.Search.{every}
 use Rattle.rules.specs.Tables.{parentOf, rank, placed, par}

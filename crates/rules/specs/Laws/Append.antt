@@ -5,7 +5,8 @@ use mathlib.Core.Path.{_≡_, refl, sym, ap, _∙_}
 use mathlib.Core.Bool.{Bool}
 use mathlib.Core.List.{List, [], _∷_, _++_}
 use mathlib.Core.Logic.{inl, inr}
-use Rattle.rules.specs.Links.{Link, Links, linked, Among, Each}
+use Rattle.base.specs.Link.{Link}
+use Rattle.rules.specs.Links.{Links, linked, Among, Each}
 use Rattle.rules.specs.Forest.{up, DepthFirst}
 use Rattle.rules.specs.Tables.{Tables, clearNotes, cleared}
 use Rattle.rules.specs.Building.{buildLink, buildLinks, pass, passes}

@@ -10,7 +10,8 @@ use native.Mathlib.Nat.{suc-mul, mul-suc, le-div-iff-mul-le}
 use lib.Dec.{T}
 use lib.ListN.{length, length-append}
 use Rattle.base.specs.Truth.{and-intro, T-dec}
-use Rattle.rules.specs.Links.{Link, linked, Among, Each}
+use Rattle.base.specs.Link.{Link}
+use Rattle.rules.specs.Links.{linked, Among, Each}
 use Rattle.rules.specs.Search.{count, every}
 use Rattle.rules.specs.Tables.{Tables, placed, fresh}
 use Rattle.rules.specs.Building.{done, pass, passes, ceiling, lowerCeiling}

@@ -11,7 +11,8 @@ use lib.ListN.{getD, List·getD-eq-default}
 use lib.Dec.{T, ltb, T-not, not-T, eqb·suc-zero}
 use Rattle.base.specs.Pick.{pick}
 use Rattle.base.specs.Truth.{and-intro, and-l, and-r, T-dec, T-true, T-false}
-use Rattle.rules.specs.Links.{Link, Links, linked, Among, JoinedBy, here, Inside}
+use Rattle.base.specs.Link.{Link}
+use Rattle.rules.specs.Links.{Links, linked, Among, JoinedBy, here, Inside}
 use Rattle.rules.specs.Search.{some}
 use Rattle.rules.specs.Tables.{Tables, parentOf, rank, noteOf, markOf, placed, par, lev}
 use Rattle.rules.specs.Building.{Walk, pieces, member, lost, noted, topOf, hang, walked, placePath, placeWalk, placePiece, placeFrom, placePieces}

@@ -10,7 +10,8 @@ use native.Mathlib.Decide.{decLe}
 use native.Mathlib.Nat.{mul-le-mul-right, suc-mul}
 use lib.Dec.{T}
 use Rattle.base.specs.Truth.{and-intro, and-l, and-r}
-use Rattle.rules.specs.Links.{Link, between, linked, tally, Among, JoinedBy}
+use Rattle.base.specs.Link.{Link}
+use Rattle.rules.specs.Links.{between, linked, tally, Among, JoinedBy}
 use Rattle.rules.specs.Forest.{up}
 use Rattle.rules.specs.Search.{count, some}
 use Rattle.rules.specs.Tables.{Tables, rank, par, lev}

@@ -8,7 +8,8 @@ use mathlib.Core.Logic.{_⊎_, inl, inr, _≢_}
 use native.Mathlib.Omega.{arith}
 use lib.Dec.{T, eqb, eqb→eq}
 use Rattle.base.specs.Truth.{and-intro, and-l, and-r, or-l, or-r, or-cases, T-dec, T-true, T-false, eq→eqb}
-use Rattle.rules.specs.Links.{Link, between, linked, Among, JoinedBy}
+use Rattle.base.specs.Link.{Link}
+use Rattle.rules.specs.Links.{between, linked, Among, JoinedBy}
 use Rattle.rules.specs.Removal.{keep}
 use Rattle.rules.specs.Laws.Chain.{back}
 

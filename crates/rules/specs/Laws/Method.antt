@@ -6,7 +6,8 @@ use mathlib.Core.Bool.{Bool}
 use mathlib.Core.List.{List, [], _∷_, _++_}
 use lib.ListN.{length}
 use lib.Dec.{T}
-use Rattle.rules.specs.Links.{Link, Links, Undirected, linked, Among, Tells, Each}
+use Rattle.base.specs.Link.{Link}
+use Rattle.rules.specs.Links.{Links, Undirected, linked, Among, Tells, Each}
 use Rattle.rules.specs.Forest.{DepthFirst}
 use Rattle.rules.specs.Tables.{Tables, placed, par, fresh, cleared}
 use Rattle.rules.specs.Building.{buildLink, buildLinks, closeBuilding, done, pass, passes, ceiling}

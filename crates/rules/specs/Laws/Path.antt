@@ -10,7 +10,8 @@ use native.Mathlib.Decide.{ℕ-discrete, decLe}
 use lib.Dec.{T}
 use borrow.Author.Tests.{eq-eqb, ne-eqb}
 use Rattle.base.specs.Pick.{pick-true, pick-false}
-use Rattle.rules.specs.Links.{Link, linked, Among, JoinedBy, here}
+use Rattle.base.specs.Link.{Link}
+use Rattle.rules.specs.Links.{linked, Among, JoinedBy, here}
 use Rattle.rules.specs.Forest.{up, Levels, Over}
 use Rattle.rules.specs.Search.{count}
 use Rattle.rules.specs.Tables.{Tables, parentOf, rank, placed, par, lev, place}

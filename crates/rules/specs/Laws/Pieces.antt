@@ -11,7 +11,8 @@ use lib.Seq.{ext-getD, append-snoc}
 use lib.Dec.{T, eqb, eqb→eq}
 use Rattle.base.specs.Pick.{pick, tests}
 use Rattle.base.specs.Truth.{eq→eqb}
-use Rattle.rules.specs.Links.{Link, linked, JoinedBy, here}
+use Rattle.base.specs.Link.{Link}
+use Rattle.rules.specs.Links.{linked, JoinedBy, here}
 pub use Rattle.rules.specs.Links.{Inside}
 use Rattle.rules.specs.Laws.Chain.{join, one, carry, wider}
 use Rattle.rules.specs.Laws.Search.{table-length, table-at}

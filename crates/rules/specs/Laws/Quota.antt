@@ -11,7 +11,8 @@ use native.Mathlib.Decide.{ℕ-discrete, decLe, decLt}
 use lib.ListN.{length, getD}
 use lib.Dec.{T, ltb, ltb→lt, lt→ltb, not-T, T-not}
 use Rattle.base.specs.Truth.{and-intro, and-l, and-r, T-dec, T-ext}
-use Rattle.rules.specs.Links.{Link, between, linked, tally, JoinedBy, Inside}
+use Rattle.base.specs.Link.{Link}
+use Rattle.rules.specs.Links.{between, linked, tally, JoinedBy, Inside}
 use Rattle.rules.specs.Search.{count}
 use Rattle.rules.specs.Tables.{Tables, placed}
 use Rattle.rules.specs.Facts.{Loose, Holding}

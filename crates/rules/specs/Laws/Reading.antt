@@ -12,7 +12,8 @@ use lib.ListN.{length}
 use borrow.Author.Tests.{eq-eqb, ne-eqb}
 use Rattle.base.specs.Pick.{pick, pick-true, pick-false, pick-all}
 use Rattle.base.specs.Truth.{and-intro, and-l, and-r, or-l, or-r, or-cases, T-true, T-false, T-dec, eq→eqb}
-use Rattle.rules.specs.Links.{Link, Among, linked, between}
+use Rattle.base.specs.Link.{Link}
+use Rattle.rules.specs.Links.{Among, linked, between}
 use Rattle.rules.specs.Forest.{up, Above, Over}
 use Rattle.rules.specs.Search.{least}
 use Rattle.rules.specs.Facts.{Standing, Unnoted, NotesOf}

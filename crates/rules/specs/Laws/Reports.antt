@@ -11,7 +11,8 @@ use lib.Dec.{T, eqb-refl, eqb, leb, ltb, eqb→eq, leb→le, le→leb, ltb→lt,
 use borrow.Author.Tests.{eq-eqb, ne-eqb}
 use Rattle.base.specs.Pick.{pick-true, pick-false}
 use Rattle.base.specs.Truth.{and-intro, and-l, and-r, or-l, or-r, or-cases, T-dec, T-ext, eq→eqb}
-use Rattle.rules.specs.Links.{Link, Links, Undirected, Among, SameSet, linked, Joined, step}
+use Rattle.base.specs.Link.{Link}
+use Rattle.rules.specs.Links.{Links, Undirected, Among, SameSet, linked, Joined, step}
 use Rattle.rules.specs.Forest.{up, DepthFirst, Levels, Over}
 use Rattle.rules.specs.Search.{count, every, first, least}
 use Rattle.rules.specs.Tables.{Tables, markOf, par, lev, cleared}

@@ -8,7 +8,8 @@ use mathlib.Core.Logic.{_⊎_, inl, inr}
 use native.Mathlib.Omega.{arith}
 use lib.ListN.{length}
 use lib.Dec.{T}
-use Rattle.rules.specs.Links.{Link, between, linked, tally}
+use Rattle.base.specs.Link.{Link}
+use Rattle.rules.specs.Links.{between, linked, tally}
 use Rattle.rules.specs.Search.{count}
 use Rattle.rules.specs.Laws.Search.{count-zero}
 pub use Rattle.rules.specs.Laws.Search.{some-count as count-some}

@@ -12,7 +12,8 @@ use lib.ListN.{length}
 use lib.Dec.{T, eqb, eqb→eq, eqb·suc-zero, ltb}
 use Rattle.base.specs.Pick.{pick-true, pick-false, tests}
 use Rattle.base.specs.Truth.{and-l, T-dec, T-true, T-false}
-use Rattle.rules.specs.Links.{Link, between, linked, Among}
+use Rattle.base.specs.Link.{Link}
+use Rattle.rules.specs.Links.{between, linked, Among}
 use Rattle.rules.specs.Tables.{Tables, rank, noteOf, placed, putNote, putMark, putHeld}
 use Rattle.rules.specs.Building.{pieces, sizeOf, heldIn, better, noteLink, hold, fill, holdLink, buildLink, buildLinks}
 use Rattle.rules.specs.Facts.{Standing, Rested, Loose, Holding, Underway}

@@ -8,7 +8,8 @@ use native.Mathlib.Omega.{arith}
 use native.Mathlib.Nat.{mul-suc}
 use lib.Dec.{T}
 use Rattle.base.specs.Truth.{T-dec}
-use Rattle.rules.specs.Links.{Link, tally}
+use Rattle.base.specs.Link.{Link}
+use Rattle.rules.specs.Links.{tally}
 use Rattle.rules.specs.Search.{count, some}
 use Rattle.rules.specs.Laws.Search.{count-yes, count-no}
 use Rattle.rules.specs.Laws.Split.{bit, bit-le, tally-cons, tally-nil, Entry, entry-head, entry-tail, tally-none}

@@ -11,7 +11,8 @@ use lib.ListN.{length, getD, length-set}
 use lib.Seq.{append-snoc}
 use lib.Dec.{T, ltb, ltb→lt, lt→ltb}
 use Rattle.base.specs.Truth.{and-intro, and-l, and-r, T-ext}
-use Rattle.rules.specs.Links.{Link, Links, between, linked, tally, JoinedBy, Among, Inside}
+use Rattle.base.specs.Link.{Link}
+use Rattle.rules.specs.Links.{Links, between, linked, tally, JoinedBy, Among, Inside}
 use Rattle.rules.specs.Search.{count}
 use Rattle.rules.specs.Tables.{Tables, rank, noteOf, markOf, placed, putNote, putMark, putHeld}
 use Rattle.rules.specs.Building.{merged, pieces, member, sizeOf, heldIn, noteLink, hold, buildLink, buildLinks, lost}

@@ -11,7 +11,8 @@ use lib.Dec.{T, ltb, not-T, T-not}
 use borrow.Author.Tests.{lt-ltb, le-ltb, eq-eqb, ne-eqb}
 use Rattle.base.specs.Pick.{pick, pick-true, pick-false}
 use Rattle.base.specs.Truth.{T-dec, and-l, and-r, and-intro}
-use Rattle.rules.specs.Links.{Link, linked, JoinedBy, here}
+use Rattle.base.specs.Link.{Link}
+use Rattle.rules.specs.Links.{linked, JoinedBy, here}
 use Rattle.rules.specs.Forest.{up, Over}
 use Rattle.rules.specs.Search.{count}
 use Rattle.rules.specs.Tables.{Tables, parentOf, rank, placed, par, lev, place}

@@ -8,7 +8,8 @@ use mathlib.Core.Logic.{_⊎_, inl, inr, _↔_}
 use native.Mathlib.Omega.{arith}
 use lib.Dec.{T, eqb, eqb→eq, not-T, T-not}
 use Rattle.base.specs.Truth.{or-l, or-r, or-cases, eq→eqb}
-use Rattle.rules.specs.Links.{Link, SameSet, linked, between, Joined, JoinedBy}
+use Rattle.base.specs.Link.{Link}
+use Rattle.rules.specs.Links.{SameSet, linked, between, Joined, JoinedBy}
 use Rattle.rules.specs.Removal.{touches, withoutLink, withoutFragment, Sole, Parts, Cut, Piece}
 use Rattle.rules.specs.Laws.Chain.{one, wider}
 use Rattle.rules.specs.Laws.Links.{between-elim, between-turn, linked-turn, joined-turn, keep-told, keep-in, keep-out}

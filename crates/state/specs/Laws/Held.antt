@@ -10,7 +10,8 @@ use native.Mathlib.Nat.{mul-le-mul}
 use lib.Dec.{T, ltb, ltb→lt, lt→ltb, leb→le, le→leb, T-not, not-T}
 use lib.ListN.{getD}
 use Rattle.base.specs.Truth.{and-l, and-r, and-intro, or-l, or-r, or-cases, T-dec}
-use Rattle.rules.specs.Links.{Link, between, linked, tally}
+use Rattle.base.specs.Link.{Link}
+use Rattle.rules.specs.Links.{between, linked, tally}
 use Rattle.rules.specs.Tables.{Tables, placed}
 use Rattle.rules.specs.Building.{pieces, member, sizeOf, heldIn}
 use Rattle.rules.specs.Laws.Facts.{Loose}

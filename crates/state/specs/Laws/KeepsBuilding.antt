@@ -10,7 +10,8 @@ use native.Mathlib.Decide.{ℕ-discrete}
 use lib.Dec.{T, ltb}
 use lib.ListN.{length}
 use Rattle.base.specs.Truth.{and-l, and-r, and-intro, or-l, or-r}
-use Rattle.rules.specs.Links.{Link, linked, Among}
+use Rattle.base.specs.Link.{Link}
+use Rattle.rules.specs.Links.{linked, Among}
 use Rattle.rules.specs.Tables.{Tables, rank, markOf, placed, putNote, putMark, putHeld}
 use Rattle.rules.specs.Building.{noteLink, hold, buildLinks, closeBuilding, done}
 use Rattle.rules.specs.Laws.Facts.{Loose, Underway}

@@ -11,9 +11,9 @@ use lib.ListN.{length}
 use Rattle.base.specs.Pick.{pick-true, pick-false}
 use Rattle.base.specs.Answer.{Answer, gives, refuses}
 use Rattle.base.specs.Truth.{or-cases, T-dec, T-true, T-false}
+use Rattle.base.specs.Link.{Link}
 use Rattle.lists.specs.List.{blockLinks}
 use Rattle.lists.specs.Laws.Link.{never-both}
-use Rattle.rules.specs.Links.{Link}
 use Rattle.rules.specs.Tables.{Tables, clearNotes}
 use Rattle.rules.specs.Building.{closeBuilding, done}
 use Rattle.rules.specs.Reading.{accepted}

@@ -11,7 +11,8 @@ use lib.Dec.{T, T-not}
 use lib.ListN.{length}
 use Rattle.base.specs.Pick.{pick-all}
 use Rattle.base.specs.Truth.{and-l, or-l, or-r, T-false}
-use Rattle.rules.specs.Links.{Link, linked, Among}
+use Rattle.base.specs.Link.{Link}
+use Rattle.rules.specs.Links.{linked, Among}
 use Rattle.rules.specs.Search.{every}
 use Rattle.rules.specs.Tables.{Tables, parentOf, noteOf, markOf, placed, par, lev, putMark, putCrossed, clearNotes, cleared}
 use Rattle.rules.specs.Reading.{hear, readLink, readLinks, accepted, seen}

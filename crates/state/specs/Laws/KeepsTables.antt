@@ -10,10 +10,11 @@ use lib.ListN.{length}
 use Rattle.base.specs.Pick.{pick-true, pick-false}
 use Rattle.base.specs.Answer.{gives}
 use Rattle.base.specs.Truth.{or-l, or-cases, T-dec, T-true, T-false}
+use Rattle.base.specs.Link.{Link}
 use Rattle.lists.specs.List.{blockLinks}
 use Rattle.lists.specs.Words.{Sound as Fits}
 use Rattle.lists.specs.Theorems.{accepted-sound, accepted-count}
-use Rattle.rules.specs.Links.{Link, linked, Among}
+use Rattle.rules.specs.Links.{linked, Among}
 use Rattle.rules.specs.Tables.{Tables, clearNotes}
 use Rattle.rules.specs.Building.{closeBuilding, done}
 use Rattle.rules.specs.Reading.{accepted}

@@ -7,7 +7,8 @@ use mathlib.Core.List.{List, [], _∷_, map}
 use native.Mathlib.Omega.{arith}
 use lib.Dec.{T, eqb, eqb-refl}
 use Rattle.base.specs.Truth.{and-intro, or-l, or-r}
-use Rattle.rules.specs.Links.{Link, between, linked}
+use Rattle.base.specs.Link.{Link}
+use Rattle.rules.specs.Links.{between, linked}
 use Rattle.state.specs.Layout.{radix, linkIn, wordOf}
 
 pub link-word : (a b : ℕ) → b < radix → linkIn (wordOf (a, b)) ≡ (a, b)

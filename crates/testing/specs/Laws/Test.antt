@@ -11,7 +11,7 @@ use lib.Dec.{T, eqb, leb, ltb, eqb→eq, leb→le, le→leb, lt→ltb, ltb→lt,
 use lib.ListN.{take, drop, length-take, drop-of-length-le}
 use Rattle.base.specs.Pick.{pick-true, pick-false}
 use Rattle.base.specs.Truth.{and-l, and-r, and-intro, or-l, or-r, or-cases, T-dec, T-true, T-false, false-T, T-ext, eq→eqb}
-use Rattle.rules.specs.Links.{Link}
+use Rattle.base.specs.Link.{Link}
 use Rattle.rules.specs.Search.{count, every}
 use Rattle.rules.specs.Tables.{Tables, parentOf, rank, noteOf, markOf, placed, par, lev}
 use Rattle.rules.specs.Building.{pieces, member, sizeOf, heldIn, done}

@@ -9,9 +9,10 @@ use lib.ListN.{length, take, drop, length-drop}
 use lib.Seq.{drop-at, drop-drop, take-append-seam}
 use Rattle.base.specs.Pick.{tests}
 use Rattle.base.specs.Answer.{Answer, gives, refuses}
+use Rattle.base.specs.Link.{Link}
 use Rattle.numbers.specs.Number.{writtenNumber, put}
 use Rattle.numbers.specs.Theorems.{number-written}
-use Rattle.lists.specs.List.{entriesMost, fragmentsMost, andThen, before, Link, LinkAt, linksAt, writtenLinks}
+use Rattle.lists.specs.List.{entriesMost, fragmentsMost, andThen, before, LinkAt, linksAt, writtenLinks}
 use Rattle.lists.specs.Words.{Sound}
 use Rattle.lists.specs.Laws.Link.{Ends, never-both}
 use Rattle.lists.specs.Laws.Block.{links-end, links-go}

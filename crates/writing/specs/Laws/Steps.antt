@@ -12,9 +12,10 @@ use lib.ListN.{length, take, drop, getD, length-append, drop-of-length-le}
 use lib.Seq.{take-at, drop-at, drop-drop, drop-cons, length-take-le}
 use Rattle.base.specs.Pick.{pick-true, pick-false, pick-all, tests}
 use Rattle.base.specs.Answer.{Answer, gives, refuses}
+use Rattle.base.specs.Link.{Link}
 use Rattle.numbers.specs.Number.{groupsMost, valueMost, writtenNumber, put, Wrote, writeUpTo, writeNumber}
 use Rattle.numbers.specs.Laws.Writing.{groups-few, put-none, length-put}
-use Rattle.lists.specs.List.{fragmentsMost, andThen, before, noSize, sized, badEnds, Link, writtenLinks}
+use Rattle.lists.specs.List.{fragmentsMost, andThen, before, noSize, sized, badEnds, writtenLinks}
 use Rattle.lists.specs.Words.{Sound}
 use Rattle.lists.specs.Laws.Link.{never-both, andThen-gives, size-good, sized-gives, joins-gives}
 use Rattle.lists.specs.Laws.Scan.{bad-first, bad-second, joins-bad, joins-good}

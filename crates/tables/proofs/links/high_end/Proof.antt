@@ -2,7 +2,7 @@
 -- Assumes nothing.
 use mathlib.Core.Path.{refl, sym, ap}
 use native.Mathlib.Omega.{arith}
-use Rattle.rules.specs.Links.{Link}
+use Rattle.base.specs.Link.{Link}
 use Rattle.state.specs.Layout.{linkIn}
 use Rattle.tables.specs.Laws.Sections.{ends-past}
 use borrow.Author.Needs.{needs}
