@@ -1,11 +1,6 @@
 -- Laws about the definitions, and the lemmas that the proofs of the code rest on.
 -- Assumes nothing.
-pub mod Scratch
-pub mod Passed
-pub mod Pieces
-pub mod Gather
-pub mod Gathered
+pub mod Among
 pub mod Noted
 pub mod Telling
 pub mod Take
-pub mod Check

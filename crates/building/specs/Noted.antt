@@ -13,7 +13,12 @@ use Rattle.state.specs.Layout.{words, linkIn, heldLinks, heldLink}
 use Rattle.state.specs.Call.{fragmentsMost}
 use Rattle.index.specs.Index.{flag, Place, Indexed, In}
 use Rattle.differing.specs.Batches.{Sorted}
-use Rattle.building.specs.Pieces.{Ends}
+
+-- The ends of a link.
+pub record Ends (n a b : ℕ) : Type 0 where
+  pub first : a < n
+  pub second : b < n
+  pub differ : a ≢ b
 
 -- The word in slot i of sections 7 to 15, and the link noted there.
 abbrev pub slotAt : ℕ → List ℕ → ℕ → ℕ

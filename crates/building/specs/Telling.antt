@@ -15,9 +15,9 @@ use Rattle.rules.specs.Laws.Facts.{Underway, Loose}
 use Rattle.state.specs.Layout.{words, stored, wordOf, forestIn, heldLink}
 use Rattle.state.specs.Test.{allZero}
 use Rattle.state.specs.Call.{fragmentsMost, roomMost}
-use Rattle.building.specs.Gathered.{heldTables}
-use Rattle.building.specs.Pieces.{Ends, Gathered, Joinable, Joins, Gathers}
-use Rattle.building.specs.Noted.{Noted}
+use Rattle.pieces.specs.Gathered.{heldTables}
+use Rattle.pieces.specs.Pieces.{Gathered, Joinable, Joins, Gathers}
+use Rattle.building.specs.Noted.{Ends, Noted}
 
 -- The held links stand with the smaller end first.
 abbrev pub Rising : ℕ → List ℕ → Type 0

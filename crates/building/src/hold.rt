@@ -1,14 +1,14 @@
 // B3: a link between two unplaced fragments is held, or marks its piece lost.
 ghost use mathlib.Core.Path.{_≡_};
 ghost use Rattle.rules.specs.Building.{holdLink};
-ghost use Rattle.building.specs.Gathered.{heldTables};
+ghost use Rattle.pieces.specs.Gathered.{heldTables};
 ghost use Rattle.building.specs.Telling.{Leaves, Sized, roomAt, Holdable, Holds, Between, Within, MayHold};
 use crate::noted::is_held;
 use crate::noted::note_held;
-use crate::pieces::LINKS;
-use crate::pieces::SIZE;
-use crate::pieces::find;
-use crate::pieces::join;
+use pieces::LINKS;
+use pieces::SIZE;
+use pieces::find;
+use pieces::join;
 use state::wide;
 use tables::MARK;
 use tables::put_link;

@@ -1,12 +1,8 @@
-// Building: the test of the tables and the pieces of the held links, with which take and close begin, and take.
-mod gathering;
+// Take while the forest is built.
 mod hold;
 mod links;
 mod noted;
-mod pieces;
 mod taking;
 mod tell;
 
-pub use gathering::gathered;
-pub use pieces::POINTER;
 pub use taking::take;

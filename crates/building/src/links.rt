@@ -1,23 +1,9 @@
-// The held links: whether one is among them, and whether no piece of them is over its quota.
-ghost use Prim.Native.Nat.{_-_, _<_, _≤_};
+// A link looked for among the held ones.
+ghost use Prim.Native.Nat.{_-_, _≤_};
 ghost use mathlib.Core.Path.{_≡_};
 ghost use lib.ListN.{length, drop};
-ghost use Rattle.base.specs.Pick.{pick};
 ghost use Rattle.rules.specs.Links.{between, linked};
 ghost use Rattle.state.specs.Layout.{heldLinks};
-ghost use Rattle.state.specs.Test.{quotaFits};
-ghost use Rattle.state.specs.Call.{roomMost};
-ghost use Rattle.building.specs.Gathered.{withPieces};
-ghost use Rattle.building.specs.Pieces.{Pointing, Gatherable};
-ghost use Rattle.building.specs.Check.{pieceFits, Tells, Readable};
-use crate::noted::NOTED;
-use crate::pieces::LINKS;
-use crate::pieces::POINTER;
-use crate::pieces::SIZE;
-use crate::pieces::gather;
-use crate::pieces::shorten;
-use state::clear;
-use state::wide;
 use tables::high_end;
 use tables::low_end;
 
@@ -49,44 +35,4 @@ pub(crate) fn is_among(held: &[u32], from: usize, to: usize, a: usize, b: usize)
         i += 1;
     }
     false
-}
-
-// 'at most k·s - 1 in a piece of s', where p is the smallest member of its piece.
-fn piece_fits(frag: &[u32], n: usize, k: usize, p: usize) -> bool
-    requires { ⌜ Readable n k p (now frag) ⌝ }
-    ensures { λ r. ⌜ Tells n (now (frag .entry)) r (λ held. pieceFits n k held p) ⌝ }
-{
-    if frag[POINTER * n + p] != 0 {
-        return true;
-    }
-    let size = wide(frag[SIZE * n + p]) + 1;
-    wide(frag[LINKS * n + p]) <= k * size - 1
-}
-
-fn quota_fits(frag: &[u32], n: usize, k: usize) -> bool
-    requires { ⌜ Pointing n (now frag) × (0 < k) × (k ≤ roomMost) ⌝ }
-    ensures { λ r. ⌜ Tells n (now (frag .entry)) r (quotaFits n k) ⌝ }
-{
-    let mut p = 0;
-    while p < n {
-        if !piece_fits(frag, n, k, p) {
-            return false;
-        }
-        p += 1;
-    }
-    true
-}
-
-// The same of links that are not gathered, and where they pass their pieces in scratch.
-pub(crate) fn pieces_fit(frag: &mut [u32], held: &[u32], n: usize, k: usize, count: usize) -> bool
-    requires { ⌜ Gatherable n (now frag) (now held) count × (0 < k) × (k ≤ roomMost) ⌝ }
-    ensures { λ r. ⌜ (r ≡ quotaFits n k (heldLinks count (now (held .entry)))) × (now (frag .exit) ≡ pick r (withPieces n (heldLinks count (now (held .entry))) (now (frag .entry))) (now (frag .entry))) ⌝ }
-{
-    gather(frag, held, n, count);
-    if !quota_fits(frag, n, k) {
-        clear(frag, POINTER * n, NOTED * n);
-        return false;
-    }
-    shorten(frag, n);
-    true
 }

@@ -1,13 +1,13 @@
 // The building rules B2 and B3: what the links of a block leave in the two tables.
 ghost use mathlib.Core.Path.{_≡_};
 ghost use Rattle.rules.specs.Building.{buildLink};
-ghost use Rattle.building.specs.Pieces.{Ends};
-ghost use Rattle.building.specs.Gathered.{heldTables};
+ghost use Rattle.pieces.specs.Gathered.{heldTables};
+ghost use Rattle.building.specs.Noted.{Ends};
 ghost use Rattle.building.specs.Telling.{Leaves, Telling, Notable, noting, Rest, Tells, MayTell, TellsAll};
 use crate::hold::hold_link;
 use crate::noted::note_all;
-use crate::pieces::POINTER;
 use lists::Link;
+use pieces::POINTER;
 use state::State;
 use state::clear;
 use tables::NOTE;

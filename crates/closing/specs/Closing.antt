@@ -16,7 +16,7 @@ use Rattle.state.specs.Layout.{heldLinks, wiped, words, stored, section, forest
 use Rattle.state.specs.Test.{allZero, endsFit}
 use Rattle.closing.specs.Arranged.{Arranged, Frame}
 use Rattle.closing.specs.Arranging.{nextOr}
-use Rattle.building.specs.Gathered.{heldTables, withPieces}
+use Rattle.pieces.specs.Gathered.{heldTables, withPieces}
 use Rattle.closing.specs.Walk.{Wide}
 
 -- Section 7 has for each fragment the smallest member of its piece.

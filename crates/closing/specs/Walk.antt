@@ -15,7 +15,7 @@ use Rattle.rules.specs.Laws.Facts.{Standing}
 use Rattle.state.specs.Layout.{words, forestIn}
 use Rattle.state.specs.Call.{fragmentsMost}
 use Rattle.closing.specs.Arranged.{linksIn, startOf, leastOf, smallerAt, Arranged, Frame}
-use Rattle.building.specs.Gathered.{heldTables}
+use Rattle.pieces.specs.Gathered.{heldTables}
 
 pub record Wide (n : ℕ) (f : List ℕ) : Type 0 where
   pub few : n ≤ fragmentsMost

@@ -28,12 +28,12 @@ use Rattle.state.specs.Laws.Sound.{underway}
 use Rattle.state.specs.declared.State.{State}
 use Rattle.state.specs.declared.Stage.the-variants.{Building}
 use Rattle.state.specs.declared.Taken.the-variants.{On, Refused}
-use Rattle.building.specs.Pieces.{Gathers}
-use Rattle.building.specs.Laws.Passed.{Passed, passed}
-use Rattle.building.specs.Laws.Scratch.{pieces-back}
-use Rattle.building.specs.Laws.Gathered.{laid-gathers, gathered-not, gathered-is}
+use Rattle.pieces.specs.Pieces.{Gathers}
+use Rattle.pieces.specs.Laws.Passed.{Passed, passed}
+use Rattle.pieces.specs.Laws.Scratch.{pieces-back}
+use Rattle.pieces.specs.Laws.Gathered.{laid-gathers, gathered-not, gathered-is}
 use Rattle.building.specs.Laws.Telling.{drop-more, gatherable}
-use Rattle.building.specs.Gathered.{holds, heldTables, withPieces, gatheredIn}
+use Rattle.pieces.specs.Gathered.{holds, heldTables, withPieces, gatheredIn}
 use Rattle.building.specs.Telling.{Rising, Rest, Tellable, Settles, MayTell, TellsAll}
 
 -- Held links that pass the test stand with the smaller end first.

@@ -12,7 +12,7 @@ use native.Mathlib.Nat.{mul-le-mul}
 use lib.Dec.{T, ltb}
 use lib.ListN.{length, getD, set, take, drop, replicate, length-set, length-append, length-replicate}
 use lib.Seq.{getD-set-same, getD-set-other, set-getD, drop-set-lt, take-take, drop-drop, take-at}
-use Rattle.base.specs.Pick.{pick, pick-true, pick-false, pick-all, tests}
+use Rattle.base.specs.Pick.{pick, pick-true, pick-false, tests}
 use Rattle.base.specs.Answer.{Answer, gives, refuses}
 use Rattle.lists.specs.List.{scanLink, linksAt}
 use Rattle.lists.specs.Laws.Link.{Accepted, link-read, link-told}
@@ -33,20 +33,16 @@ use Rattle.state.specs.Laws.Clear.{wiped-length, wiped-front, wiped-rest, wiped
 use Rattle.state.specs.Laws.Lists.{zeros-pass}
 use Rattle.state.specs.Laws.Words.{link-word}
 use Rattle.state.specs.Laws.Layout.{store-note, store-mark, store-held, tables-frag-same}
-use Rattle.building.specs.Pieces.{Ends, heldMost, Gathered, Finds, Joins, Gatherable, Gathers}
-use Rattle.building.specs.Noted.{Noted, Apart, Askable, Answers, Learnable, Unnoted}
+use Rattle.pieces.specs.Pieces.{found, joined, heldMost, Gathered, Finds, Gatherable, Gathers}
+use Rattle.building.specs.Noted.{Ends, Noted, Apart, Askable, Answers, Learnable, Unnoted}
 use Rattle.differing.specs.Laws.Scratch.{blank-at}
-use Rattle.building.specs.Laws.Pieces.{front-at, rest-at, gathered-by}
+use Rattle.pieces.specs.Laws.Pieces.{front-at, rest-at, gathered-by}
 use Rattle.building.specs.Laws.Noted.{noted-none, noted-keeps}
-use Rattle.building.specs.Laws.Gather.{link-there}
-use Rattle.building.specs.Gathered.{holds, heldTables}
+use Rattle.pieces.specs.Laws.Ways.{finds-by}
+use Rattle.pieces.specs.Laws.Gather.{joined-joins, link-there}
+use Rattle.pieces.specs.Gathered.{holds, heldTables}
 use Rattle.tables.specs.Laws.Links.{word-within}
 use Rattle.building.specs.Telling.{Rising, Telling, Leaves, noting, Notable, roomAt, Sized, Holdable, Holds, Between, Within, MayHold, Rest, Tells, Tellable, Told}
-
--- The better of two notes is one of them.
-pub better-small : (n : ℕ) (t : Tables) (old new r : ℕ) → r ≡ better t old new → old ≤ n → new ≤ n → r ≤ n
-unfolding better
-better-small n t old new r e a b = rw e (pick-all (λ x. x ≤ n) _ _ _ a (pick-all (λ x. x ≤ n) _ _ _ b (pick-all (λ x. x ≤ n) _ _ _ b (pick-all (λ x. x ≤ n) _ _ _ b a))))
 
 -- The better note in its place.
 module _ {n u p : ℕ} {f : List ℕ} (N : Notable n u p f) where
@@ -259,7 +255,13 @@ module _ {n k count a b : ℕ} {f h : List ℕ} (B : Between n k count a b f h) 
   }
 
   -- The smallest members p and q of its ends' pieces are found. Where they differ it is not held already: a held link's ends have one label.
-  module _ (p q : ℕ) (f₁ f₂ : List ℕ) (P : Finds n a f p f₁) (Q : Finds n b f₁ q f₂) where
+  module _ (p q : ℕ) (f₁ f₂ : List ℕ) (ep : (p, f₁) ≡ found n a f) (eq : (q, f₂) ≡ found n b f₁) where
+    P : Finds n a f p f₁
+    P = finds-by p f₁ ep (S .gathered .pointing) (E .first)
+
+    Q : Finds n b f₁ q f₂
+    Q = finds-by q f₂ eq (P .pointing) (E .second)
+
     label-first : p ≡ getD l a 0
     label-first = P .label (t′ .held) (S .gathered)
 
@@ -471,17 +473,19 @@ module _ {n count a b : ℕ} {f h h′ : List ℕ} (H : Holdable n count a b f h
   held-word : h′ ≡ set h count (wordOf (min a b, max a b))
   held-word = z ∙ ap (λ x. set h count x) (word-within a b (omega (arith, H .few-fragments, H .ends .first)) (omega (arith, H .few-fragments, H .ends .second)))
 
-  pub holds-rising : {f′ : List ℕ} → a < b → Joins n a b f f′ → Holds n count a b f h f′ h′
-  holds-rising l j =
+  pub holds-rising : {f′ : List ℕ} → a < b → f′ ≡ joined n a b f → Holds n count a b f h f′ h′
+  holds-rising {f′} l j =
       let e : min a b ≡ a = omega arith in
       let g : max a b ≡ b = omega arith in
-      record { word = held-word; joins = rw (e, g) j }
+      let z : f′ ≡ joined n (min a b) (max a b) f = rw (e, g) j in
+      record { word = held-word; joins = rw z (joined-joins (H .joinable)) }
 
-  pub holds-falling : {f′ : List ℕ} → b ≤ a → Joins n b a f f′ → Holds n count a b f h f′ h′
-  holds-falling l j =
+  pub holds-falling : {f′ : List ℕ} → b ≤ a → f′ ≡ joined n b a f → Holds n count a b f h f′ h′
+  holds-falling {f′} l j =
       let e : min a b ≡ b = omega arith in
       let g : max a b ≡ a = omega arith in
-      record { word = held-word; joins = rw (e, g) j }
+      let z : f′ ≡ joined n (min a b) (max a b) f = rw (e, g) j in
+      record { word = held-word; joins = rw z (joined-joins (H .joinable)) }
 
 -- Before byte `at` the block's links are told; those from there on lead to what the whole block leaves.
 pub record Midway (n k first entries : ℕ) (block f₀ h₀ : List ℕ) (count : ℕ) (f h : List ℕ) (told at : ℕ) : Type 0 where

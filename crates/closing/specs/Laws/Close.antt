@@ -35,9 +35,9 @@ use Rattle.state.specs.declared.Stage.{Stage}
 use Rattle.state.specs.declared.Stage.the-variants.{Building, Built}
 use Rattle.state.specs.declared.Closed.the-variants.{More, Done, Refused}
 use Rattle.closing.specs.Closing.{Endable, EndsPass}
-use Rattle.building.specs.Gathered.{heldTables, holds, gatheredIn}
-use Rattle.building.specs.Laws.Gathered.{gathered-not}
-use Rattle.building.specs.Laws.Passed.{Passed, passed}
+use Rattle.pieces.specs.Gathered.{heldTables, holds, gatheredIn}
+use Rattle.pieces.specs.Laws.Gathered.{gathered-not}
+use Rattle.pieces.specs.Laws.Passed.{Passed, passed}
 
 -- The held words cleared, where those behind them are 0 as far as the table goes.
 wiped-held : (c b : ℕ) (h : List ℕ) → c ≤ b → b ≤ length h → (h ≡ take c h ++ (replicate (b - c) 0 ++ drop b h)) → wiped 0 c h ≡ replicate b 0 ++ drop b h

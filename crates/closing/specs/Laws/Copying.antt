@@ -18,7 +18,7 @@ use Rattle.state.specs.Layout.{section, tablesIn, forestIn}
 use Rattle.state.specs.Laws.Layout.{section-set, section-before, section-after, parent-word, level-word}
 use Rattle.closing.specs.Closing.{labelAt, Follows, Chained, Copyable, copiedAt, Copies, savedAt, Beside, Climbable, Climbs}
 use Rattle.closing.specs.Walk.{Wide}
-use Rattle.building.specs.Gathered.{heldTables, holds}
+use Rattle.pieces.specs.Gathered.{heldTables, holds}
 use Rattle.closing.specs.Laws.Members.{Along, follows-by, none-between}
 use Rattle.closing.specs.Laws.Walking.{bare-parent}
 use Rattle.closing.specs.Laws.Frames.{frame-refl, frame-join, wide-by, chained-by}

@@ -27,10 +27,10 @@ use Rattle.closing.specs.Arranged.{Arrangeable, Arranges}
 use Rattle.closing.specs.Arranging.{nextOr}
 use Rattle.closing.specs.Walk.{Wide}
 use Rattle.closing.specs.Closing.{labelsIn, Labels, Chainable, Chains, PlacesAll, Endable, Prepares, EndsPass}
-use Rattle.building.specs.Gathered.{heldTables, pointerOf, withPieces}
+use Rattle.pieces.specs.Gathered.{heldTables, pointerOf, withPieces}
 use Rattle.differing.specs.Laws.Scratch.{wiped-before, wiped-within, wiped-behind, blank-at}
-use Rattle.building.specs.Laws.Gathered.{pointer-own, pointer-other, laid-length, laid-before, laid-pointer, laid-behind}
-use Rattle.building.specs.Laws.Gather.{link-there}
+use Rattle.pieces.specs.Laws.Gathered.{pointer-own, pointer-other, laid-length, laid-before, laid-pointer, laid-behind}
+use Rattle.pieces.specs.Laws.Gather.{link-there}
 use Rattle.closing.specs.Laws.Members.{membered-by}
 use Rattle.closing.specs.Laws.Choosing.{label-by}
 use Rattle.closing.specs.Laws.Frames.{section-by, drop-by, wide-by}

@@ -22,7 +22,7 @@ use Rattle.rules.specs.Laws.CloseAny.{shown, learnt-shown}
 use Rattle.state.specs.Layout.{tablesIn, forestIn, bare}
 use Rattle.state.specs.Laws.Layout.{level-word}
 use Rattle.closing.specs.Closing.{labelsIn, labelAt, Chained, topBy, dueAt, Beside, Hanging, PathLeaves, WholeLeaves, Due, PieceLeaves, Closable, AllLeaves}
-use Rattle.building.specs.Gathered.{heldTables}
+use Rattle.pieces.specs.Gathered.{heldTables}
 use Rattle.closing.specs.Walk.{Wide}
 use Rattle.closing.specs.Laws.Members.{membered-by}
 use Rattle.closing.specs.Laws.Choosing.{label-by, label-word, member-label, noted-same, top-by}

@@ -29,7 +29,7 @@ use Rattle.state.specs.Laws.Layout.{section-length, section-at, tables-are, par
 use Rattle.closing.specs.Arranged.{Frame}
 use Rattle.closing.specs.Closing.{labelsIn, labelAt, Chained, Copies, savedAt, Beside, Climbable, Climbs, Hanging, walkOf, PathLeaves, WholeLeaves}
 use Rattle.closing.specs.Walk.{Wide, hungAt, Hangable, waits, unreached, Walkable, WalkLeaves}
-use Rattle.building.specs.Gathered.{heldTables, holds}
+use Rattle.pieces.specs.Gathered.{heldTables, holds}
 use Rattle.closing.specs.Laws.Choosing.{label-by}
 use Rattle.closing.specs.Laws.Walking.{bare-standing, bare-rank, bare-placed, hung-tables, hung-kept, hung-long}
 use Rattle.closing.specs.Laws.Frames.{section-by, frame-join, low-frame, narrow, wide-by, beside-section, chained-by, arranged-beside}

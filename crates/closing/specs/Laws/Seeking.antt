@@ -21,7 +21,7 @@ use Rattle.state.specs.Layout.{tablesIn, heldLinks}
 use Rattle.state.specs.Laws.Layout.{level-word}
 use Rattle.closing.specs.Arranged.{linksIn, startOf, smallerAt, afterAt, Arranged}
 use Rattle.closing.specs.Walk.{Wide, Placed, greaterOf, Smaller, Greater, cursorsAt, Found, Findable, Seekable, SeeksSmaller, SeeksGreater, Seeks}
-use Rattle.building.specs.Gathered.{heldTables, holds}
+use Rattle.pieces.specs.Gathered.{heldTables, holds}
 use Rattle.closing.specs.Laws.Choosing.{first-is}
 
 -- The word after the start of v, as the code reads it.

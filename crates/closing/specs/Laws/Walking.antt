@@ -27,7 +27,7 @@ use Rattle.state.specs.Layout.{words, tablesIn, forestIn}
 use Rattle.state.specs.Laws.Layout.{level-word, parent-word, store-place, store-scratch}
 use Rattle.closing.specs.Arranged.{linksIn, startOf, leastOf, smallerAt, Arranged, Frame}
 use Rattle.closing.specs.Walk.{Placed, greaterOf, smallerOf, Behind, cursorsAt, enteredAt, Seekable, Seeks, putAt, hungAt, reachedAt, deeper, Reachable, waits, unreached, Walkable, WalkLeaves}
-use Rattle.building.specs.Gathered.{heldTables, holds}
+use Rattle.pieces.specs.Gathered.{heldTables, holds}
 use Rattle.closing.specs.Laws.Seeking.{arranged-wide, smaller-in, placed-word, word-placed}
 
 -- What is known of the forest alone.

@@ -6,7 +6,7 @@ use mathlib.Core.List.{List}
 use native.Mathlib.Omega.{arith}
 use native.Mathlib.Nat.{mul-le-mul-right}
 use lib.ListN.{length, getD, length-take, length-drop, List·getD-eq-default}
-use Rattle.base.specs.Pick.{tests}
+use Rattle.base.specs.Pick.{pick-all, tests}
 use Rattle.rules.specs.Tables.{Tables, rank}
 use Rattle.rules.specs.Building.{better}
 use Rattle.state.specs.Layout.{section, linkIn, heldLink, Says}
@@ -36,6 +36,11 @@ module _ (t : Tables) (old new : ℕ) where
   pub better-old : new ≡ 0 → old ≡ better t old new
   unfolding better
   better-old e = simp tests
+
+  -- It is one of them.
+  pub better-small : (n r : ℕ) → r ≡ better t old new → old ≤ n → new ≤ n → r ≤ n
+  unfolding better
+  better-small n r e a b = rw e (pick-all (λ x. x ≤ n) _ _ _ a (pick-all (λ x. x ≤ n) _ _ _ b (pick-all (λ x. x ≤ n) _ _ _ b (pick-all (λ x. x ≤ n) _ _ _ b a))))
 
   module _ (h1 : new ≡ 0 → ⊥) where
     pub better-new : old ≡ 0 → new ≡ better t old new

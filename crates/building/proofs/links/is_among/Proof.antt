@@ -6,7 +6,7 @@ use native.Mathlib.Omega.{arith}
 use borrow.Author.Needs.{needs}
 use Rattle.rules.specs.Links.{linked}
 use Rattle.differing.specs.Laws.Links.{left}
-use Rattle.building.specs.Laws.Check.{among-more, among-hit, among-none}
+use Rattle.building.specs.Laws.Among.{among-more, among-hit, among-none}
 use Rattle.building.proofs.links.is_among.Statement.{statement}
 use Rattle.building.proofs.links.is_among.Tie as tie
 

@@ -1,7 +1,7 @@
 -- `building::links::is_same` meets its contract: one law for each answer.
 -- Assumes nothing.
 use native.Mathlib.Omega.{arith}
-use Rattle.building.specs.Laws.Check.{same-straight, same-turned, same-not}
+use Rattle.building.specs.Laws.Among.{same-straight, same-turned, same-not}
 use Rattle.building.proofs.links.is_same.Statement.{statement}
 use Rattle.building.proofs.links.is_same.Tie as tie
 

@@ -6,7 +6,7 @@ use native.Mathlib.Omega.{arith}
 use borrow.Author.Needs.{needs}
 use Rattle.state.specs.Layout.{heldLinks}
 use Rattle.building.specs.Noted.{Noted, Apart}
-use Rattle.building.specs.Laws.Gather.{links-more}
+use Rattle.pieces.specs.Laws.Gather.{links-more}
 use Rattle.building.specs.Laws.Noted.{apart-none, apart-then, held-small}
 use Rattle.building.proofs.noted.set_flags.Statement.{statement}
 use Rattle.building.proofs.noted.set_flags.Tie as tie

@@ -3,7 +3,7 @@
 use native.Mathlib.Omega.{arith}
 use mathlib.Core.Path.{sym, ap, _∙_}
 use Rattle.lists.specs.Answers.{toldCount}
-use Rattle.building.specs.Laws.Passed.{passed}
+use Rattle.pieces.specs.Laws.Passed.{passed}
 use Rattle.building.specs.Laws.Take.{block-rest, take-head, take-refused, take-tells, take-accepted}
 use borrow.Author.Needs.{needs}
 use Rattle.building.proofs.taking.take.Statement.{statement}

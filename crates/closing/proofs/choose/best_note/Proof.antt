@@ -7,7 +7,7 @@ use native.Mathlib.Omega.{arith}
 use Rattle.state.specs.Layout.{bare}
 use Rattle.state.specs.Laws.Layout.{note-word}
 use Rattle.closing.specs.Laws.Members.{Along, along-first, along-next}
-use Rattle.building.specs.Laws.Telling.{better-small}
+use Rattle.tables.specs.Laws.Sections.{better-small}
 use Rattle.closing.specs.Laws.Choosing.{BestNote, best-start, best-next}
 use borrow.Author.Needs.{needs}
 use Rattle.closing.proofs.choose.best_note.Statement.{statement}
@@ -37,7 +37,7 @@ loop-again c =
     let b = c .before .better-note .ensures in
     let a = c .before .before .before .before .before .before .args in
     let q = c .before .before .before .before .before .before .pre in
-    let m = better-small (a .n) _ _ _ _ b (l .inv .2) (omega (arith, note-word (bare (a .n)) (a .frag .now) [] (l .v) (omega arith), q .notes (l .v) (omega arith))) in
+    let m = better-small _ _ _ (a .n) _ b (l .inv .2) (omega (arith, note-word (bare (a .n)) (a .frag .now) [] (l .v) (omega arith), q .notes (l .v) (omega arith))) in
     (along-next (l .inv .0) (omega arith) (c .next-member .ensures), best-next _ _ _ _ _ (l .inv .0) (omega arith) (c .next-member .ensures) _ _ (l .inv .1) b, m)
 
 returns : tie.Need-returns Inv-loop μ-loop

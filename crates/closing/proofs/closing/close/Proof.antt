@@ -3,7 +3,7 @@
 use mathlib.Core.Path.{sym, _∙_}
 use native.Mathlib.Omega.{arith}
 use borrow.Author.Needs.{needs}
-use Rattle.building.specs.Laws.Gathered.{gathered-is}
+use Rattle.pieces.specs.Laws.Gathered.{gathered-is}
 use Rattle.closing.specs.Laws.Close.{close-head, close-ends, close-counts, close-done, close-more}
 use Rattle.closing.proofs.closing.close.Statement.{statement}
 use Rattle.closing.proofs.closing.close.Tie as tie

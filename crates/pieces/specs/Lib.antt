@@ -1,0 +1,4 @@
+pub mod Gathered
+pub mod Pieces
+pub mod Check
+pub mod Laws
