@@ -1,4 +1,5 @@
 pub mod Gathered
+pub mod Joined
 pub mod Pieces
 pub mod Check
 pub mod Laws

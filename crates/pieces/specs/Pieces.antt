@@ -1,11 +1,10 @@
--- The pieces of the held links in three scratch sections of the fragment table. Definitions only.
+-- The pieces of the held links in three scratch sections of the fragment table: when they stand there, and what the private functions ask and leave. Definitions only.
 -- Assumes nothing.
-use Prim.Native.Nat.{ℕ, zero, suc, _+_, _-_, _*_, _≤_, _<_}
+use Prim.Native.Nat.{ℕ, suc, _+_, _-_, _*_, _≤_, _<_}
 use mathlib.Core.Path.{_≡_}
-use mathlib.Core.Bool.{Bool, _&&_}
 use mathlib.Core.List.{List, [], _∷_, _++_}
 use lib.ListN.{length, getD, set, take, drop}
-use lib.Dec.{T, eqb, ltb, leb}
+use lib.Dec.{T, eqb}
 use Rattle.base.specs.Pick.{pick}
 use Rattle.base.specs.Link.{Link}
 use Rattle.rules.specs.Building.{pieces, sizeOf, heldIn}
@@ -14,57 +13,6 @@ use Rattle.state.specs.Layout.{words, stored, heldLinks}
 use Rattle.state.specs.Test.{allZero}
 use Rattle.state.specs.Call.{fragmentsMost}
 use Rattle.pieces.specs.Gathered.{withPieces}
-
--- A table of so many words has the sections of n fragments, of which v is one.
-unfoldable pub isIn : (len n v : ℕ) → Bool
-isIn len n v = leb n fragmentsMost && (leb (words * n) len && ltb v n)
-
--- Section 4: the pointer of v.
-abbrev pub pointer : ℕ → List ℕ → ℕ → ℕ
-pointer n f v = getD f (4 * n + v) 0
-
--- A pointer of u leads to a smaller fragment.
-unfoldable pub leads : (word u : ℕ) → Bool
-leads word u = ltb 0 word && leb word u
-
--- The way from u along pointers that lead on, two at a time: where it ends, and the table in which each fragment left behind points two steps on.
-unfoldable pub way : ℕ → ℕ → ℕ → List ℕ → ℕ × List ℕ
-way zero n u f = (u, f)
-way (suc turns) n u f =
-    let p = pointer n f u - 1 in
-    let up = pointer n f p in
-    pick (leads (pointer n f u) u) (pick (leads up p) (way turns n (up - 1) (set f (4 * n + u) up)) (p, f)) (u, f)
-
--- The way from v. It is no longer than v turns, since it goes down.
-unfoldable pub found : ℕ → ℕ → List ℕ → ℕ × List ℕ
-found n v f = pick (isIn (length f) n v) (way (suc v) n v f) (v, f)
-
--- A word with another and one added; as it was where the sum is too great for a word.
-unfoldable pub added : ℕ → ℕ → ℕ
-added x y = pick (ltb (x + y + 1) 4294967296) (x + y + 1) x
-
--- One more link counted in the piece of p.
-unfoldable pub counted : ℕ → ℕ → List ℕ → List ℕ
-counted n p f = set f (6 * n + p) (added (getD f (6 * n + p) 0) 0)
-
--- One word grown by another and one.
-abbrev pub grown : ℕ → ℕ → List ℕ → List ℕ
-grown at by f = set f at (added (getD f at 0) (getD f by 0))
-
--- The piece of q under that of p, by one link more.
-unfoldable pub united : ℕ → ℕ → ℕ → List ℕ → List ℕ
-united n p q f = set (grown (6 * n + p) (6 * n + q) (grown (5 * n + p) (5 * n + q) f)) (4 * n + q) (p + 1)
-
--- One more link between the pieces of p and q: of two the one with the smaller member stays.
-unfoldable pub bound : ℕ → ℕ → ℕ → List ℕ → List ℕ
-bound n p q f = pick (eqb p q) (counted n p f) (pick (ltb p q) (united n p q f) (united n q p f))
-
--- One more link between a and b: both their ways are gone, and the pieces where they end are bound.
-unfoldable pub joined : ℕ → ℕ → ℕ → List ℕ → List ℕ
-joined n a b f =
-    let x = found n a f in
-    let y = found n b (x .1) in
-    pick (isIn (length f) n a) (pick (isIn (length f) n b) (bound n (x .0) (y .0) (y .1)) f) f
 
 -- p and q are fragments of the table.
 pub record Members (n p q : ℕ) (f : List ℕ) : Type 0 where

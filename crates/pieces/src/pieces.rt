@@ -2,7 +2,8 @@
 ghost use mathlib.Core.Path.{_≡_};
 ghost use Prim.Native.Nat.{_<_};
 ghost use lib.ListN.{length};
-ghost use Rattle.pieces.specs.Pieces.{isIn, leads, found, added, counted, grown, united, Members, bound, joined, Gatherable, Gathers, shorter, Leading, shortAt, Shortable, Shortens};
+ghost use Rattle.pieces.specs.Joined.{isIn, leads, found, added, counted, grown, united, bound, joined};
+ghost use Rattle.pieces.specs.Pieces.{Members, Gatherable, Gathers, shorter, Leading, shortAt, Shortable, Shortens};
 use state::State;
 use tables::high_end;
 use tables::low_end;
@@ -44,7 +45,7 @@ fn leads_on(word: u32, u: usize) -> bool
 }
 
 // The smallest member of v's piece. Each fragment on the way points two steps on afterwards, so that the next way is shorter.
-// The way ends in any table: it goes on only to a smaller fragment. Without its section it ends at v.
+// It ends in any table, since it goes on to a smaller fragment only. It is v where the table has not the sections.
 pub fn find(frag: &mut [u32], n: usize, v: usize) -> usize
     ensures { λ r. ⌜ (r, now (frag .exit)) ≡ found n v (now (frag .entry)) ⌝ }
 {
@@ -121,7 +122,7 @@ fn bind(frag: &mut [u32], n: usize, p: usize, q: usize)
     }
 }
 
-// One more held link, from a to b. Nothing changes where the table has not the sections of both.
+// One more held link, from a to b. Nothing changes where the table has not the sections, or an end is none of the fragments.
 pub fn join(frag: &mut [u32], n: usize, a: usize, b: usize)
     ensures { λ r. ⌜ now (frag .exit) ≡ joined n a b (now (frag .entry)) ⌝ }
 {

@@ -33,7 +33,8 @@ use Rattle.state.specs.Laws.Clear.{wiped-length, wiped-front, wiped-rest, wiped
 use Rattle.state.specs.Laws.Lists.{zeros-pass}
 use Rattle.state.specs.Laws.Words.{link-word}
 use Rattle.state.specs.Laws.Layout.{store-note, store-mark, store-held, tables-frag-same}
-use Rattle.pieces.specs.Pieces.{found, joined, heldMost, Gathered, Finds, Gatherable, Gathers}
+use Rattle.pieces.specs.Joined.{found, joined}
+use Rattle.pieces.specs.Pieces.{heldMost, Gathered, Finds, Gatherable, Gathers}
 use Rattle.building.specs.Noted.{Ends, Noted, Apart, Askable, Answers, Learnable, Unnoted}
 use Rattle.differing.specs.Laws.Scratch.{blank-at}
 use Rattle.pieces.specs.Laws.Pieces.{front-at, rest-at, gathered-by}

@@ -24,7 +24,8 @@ use Rattle.rules.specs.Laws.Quota.{size-join, size-other, heldIn-join, heldIn-o
 use Rattle.state.specs.Layout.{words, stored, linkIn, heldLinks, heldLink}
 use Rattle.state.specs.Call.{fragmentsMost}
 use Rattle.state.specs.Laws.Lists.{length-map}
-use Rattle.pieces.specs.Pieces.{isIn, found, added, counted, united, bound, joined, Members, heldMost, Gathered, Kept, LabelIs, Finds, Joinable, Joins, Gatherable, Gathers}
+use Rattle.pieces.specs.Joined.{isIn, found, added, counted, united, bound, joined}
+use Rattle.pieces.specs.Pieces.{Members, heldMost, Gathered, Kept, LabelIs, Finds, Joinable, Joins, Gatherable, Gathers}
 use Rattle.differing.specs.Laws.Scratch.{Blank, blank-at}
 use Rattle.pieces.specs.Laws.Pieces.{kept-refl, kept-trans, kept-set}
 use Rattle.pieces.specs.Laws.Ways.{in-known, in-is, found-in, found-finds}

@@ -4,16 +4,17 @@ use Prim.Native.Nat.{ℕ, zero, suc, pred, _+_, _-_, _*_, _≤_, _<_}
 use mathlib.Core.Path.{_≡_, refl, sym, ap, subst, _∙_}
 use mathlib.Core.Bool.{true, false, _&&_}
 use mathlib.Core.List.{List}
-use mathlib.Core.Logic.{_⊎_, inl, inr, _≢_}
+use mathlib.Core.Logic.{_⊎_, inl, inr}
 use native.Mathlib.Omega.{arith}
 use native.Mathlib.Decide.{ℕ-discrete}
 use lib.Dec.{T, leb, ltb, leb→le, ltb→lt}
-use lib.ListN.{length, getD, set, length-set}
+use lib.ListN.{length, set, length-set}
 use Rattle.base.specs.Pick.{pick-true, pick-false, tests}
 use Rattle.base.specs.Truth.{and-l, and-r, true-T}
 use Rattle.state.specs.Layout.{words}
 use Rattle.state.specs.Call.{fragmentsMost}
-use Rattle.pieces.specs.Pieces.{isIn, pointer, leads, way, found, Pointing, Finds}
+use Rattle.pieces.specs.Joined.{isIn, pointer, leads, way, found}
+use Rattle.pieces.specs.Pieces.{Pointing, Finds}
 use Rattle.pieces.specs.Laws.Pieces.{Finding, finding-starts, finding-ends, finding-less, finding-next, finding-down, finding-on}
 
 -- A table with the sections of n fragments.
@@ -84,7 +85,7 @@ module _ (turns n u : ℕ) (f : List ℕ) where
     way-on e = rw (← a, ← e) (sym (pick-true _ _ ∙ pick-true _ _))
 
 -- It goes down.
-pub way-down : (turns n u : ℕ) (f : List ℕ) → way turns n u f .0 ≤ u
+way-down : (turns n u : ℕ) (f : List ℕ) → way turns n u f .0 ≤ u
 unfolding way
 way-down zero n u f = omega arith
 way-down (suc turns) n u f = elim (leads-dec (pointer n f u) u) [

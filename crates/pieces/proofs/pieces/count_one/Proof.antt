@@ -1,7 +1,7 @@
 -- `pieces::pieces::count_one` meets its contract: one word is stored.
 -- Assumes nothing.
 use mathlib.Core.Path.{refl}
-use Rattle.pieces.specs.Pieces.{counted}
+use Rattle.pieces.specs.Joined.{counted}
 use borrow.Author.Needs.{needs}
 use Rattle.pieces.proofs.pieces.count_one.Statement.{statement}
 use Rattle.pieces.proofs.pieces.count_one.Tie as tie

@@ -2,7 +2,7 @@
 -- Assumes nothing.
 use mathlib.Core.Path.{refl, _∙_}
 use lib.ListN.{length-set}
-use Rattle.pieces.specs.Pieces.{united}
+use Rattle.pieces.specs.Joined.{united}
 use borrow.Author.Needs.{needs}
 use Rattle.pieces.proofs.pieces.unite.Statement.{statement}
 use Rattle.pieces.proofs.pieces.unite.Tie as tie

@@ -1,7 +1,6 @@
 -- `pieces::quota::quota_fits` meets its contract: after p turns the pieces with smallest member below p keep their quota.
 -- Assumes nothing.
 use Prim.Native.Nat.{_-_, _≤_}
-use mathlib.Core.Path.{_≡_}
 use native.Mathlib.Omega.{arith}
 use borrow.Author.Needs.{needs}
 use borrow.Author.Tests.{not-true, not-false}
