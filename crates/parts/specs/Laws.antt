@@ -11,7 +11,6 @@ use lib.ListN.{length, take, drop, length-append, length-drop}
 use lib.Seq.{take-take, take-append-seam, length-take-le}
 use Rattle.base.specs.Pick.{pick, pick-true, pick-false}
 use Rattle.base.specs.Answer.{Answer, gives, refuses}
-use Rattle.base.specs.Truth.{T-true}
 use Rattle.base.specs.Link.{Link}
 use Rattle.numbers.specs.Number.{Numeral, readNumber, groupsMost, put}
 use Rattle.numbers.specs.Words.{Whole}
