@@ -1,5 +1,5 @@
--- A find and a join in three scratch sections of the fragment table, whatever stands there: to a smaller member of the piece, and at the
--- smallest member one less than its size, and its held links. Definitions only.
+-- A find and a join in three scratch sections of the fragment table, whatever stands there: section 4 has the pointers; at the smallest member
+-- of a piece section 5 has one less than its size, section 6 how many links it holds. Definitions only.
 -- Assumes nothing.
 use Prim.Native.Nat.{ℕ, zero, suc, _+_, _-_, _*_}
 use mathlib.Core.Bool.{Bool, _&&_}
@@ -22,7 +22,7 @@ pointer n f v = getD f (4 * n + v) 0
 unfoldable pub leads : (word u : ℕ) → Bool
 leads word u = ltb 0 word && leb word u
 
--- The way from u along pointers that lead on, two steps in a turn: where it ends, and the table in which each fragment left behind points two steps on.
+-- The way from u along pointers that lead on, two steps in a turn: where it ends, and the table, in which the fragments left behind point two steps on.
 unfoldable pub way : (turns n u : ℕ) → List ℕ → ℕ × List ℕ
 way zero n u f = (u, f)
 way (suc turns) n u f =
@@ -30,7 +30,7 @@ way (suc turns) n u f =
     let up = pointer n f p in
     pick (leads (pointer n f u) u) (pick (leads up p) (way turns n (up - 1) (set f (4 * n + u) up)) (p, f)) (u, f)
 
--- The way from v, which ends before v turns are made: each goes down. Where the table has not the sections, or v is none of the fragments, it ends at v.
+-- The way from v: v + 1 turns are enough, since each goes down. Where the table has not the sections, or v is none of the fragments, it ends at v.
 unfoldable pub found : (n v : ℕ) → List ℕ → ℕ × List ℕ
 found n v f = pick (isIn (length f) n v) (way (suc v) n v f) (v, f)
 

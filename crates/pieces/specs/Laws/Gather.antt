@@ -258,7 +258,7 @@ module _ {n : ℕ} {held : List Link} {f : List ℕ} (G : Gathered n held f) (ro
 
 -- The two smallest members found, p for a and then q for b: what `join` asks and leaves.
 module _ {n : ℕ} {f f₁ f₂ : List ℕ} {a b : ℕ} (J : Joinable n f a b) (p q : ℕ) (P : Finds n a f p f₁) (Q : Finds n b f₁ q f₂) where
-  open Joinable J using (gathered as G, room, one, two)
+  open Joinable J using (one, two)
 
   still : (held : List Link) → Gathered n held f → Gathered n held f₂
   still held H = Q .stays held (P .stays held H)
@@ -269,12 +269,6 @@ module _ {n : ℕ} {f f₁ f₂ : List ℕ} {a b : ℕ} (J : Joinable n f a b) (
   found-kept : Kept n f f₂
   found-kept = kept-trans (P .kept) (Q .kept)
 
-  own-a : getD (pieces n (J .held)) p 0 ≡ p
-  own-a = rw (P .label (J .held) G) (label-own n (J .held) (G .inside) a one)
-
-  own-b : getD (pieces n (J .held)) q 0 ≡ q
-  own-b = rw (label-b (J .held) G) (label-own n (J .held) (G .inside) b two)
-
   join-inside : p ≡ q → (g : List ℕ) → g ≡ counted n p f₂ → Joins n a b f g
   join-inside e g r = rw r (record {
     more = λ held h H. gathered-inside (still held H) h a b one two p (sym (P .label held H)) (sym (label-b held H) ∙ sym e);
@@ -282,22 +276,13 @@ module _ {n : ℕ} {f f₁ f₂ : List ℕ} {a b : ℕ} (J : Joinable n f a b) (
   })
 
   module _ (lo hi : ℕ) (lt : lo < hi) (el : min p q ≡ lo) (eh : max p q ≡ hi) where
-    own-lo : (hi < n) × (getD (pieces n (J .held)) lo 0 ≡ lo) × (getD (pieces n (J .held)) hi 0 ≡ hi)
-    own-lo = elim (decLe p q) [
-      | yes h ↦
-          let x : lo ≡ p = omega arith in
-          let y : hi ≡ q = omega arith in
-          rw (x, y) (Q .in-range, own-a, own-b)
-      | no h ↦
-          let x : lo ≡ q = omega arith in
-          let y : hi ≡ p = omega arith in
-          rw (x, y) (P .in-range, own-b, own-a)
-    ]
+    below : hi < n
+    below = omega (arith, P .in-range, Q .in-range)
 
     join-between : (g : List ℕ) → g ≡ united n lo hi f₂ → Joins n a b f g
     join-between g r = rw r (record {
       more = λ held h H. gathered-between (still held H) h a b one two lo hi lt (omega (arith, P .label held H, label-b held H)) (omega (arith, P .label held H, label-b held H));
-      kept = kept-trans found-kept (united-kept n lo hi f₂ (omega (arith, own-lo .0)) (own-lo .0));
+      kept = kept-trans found-kept (united-kept n lo hi f₂ (omega (arith, below)) below);
     })
 
 -- Which pieces are bound.
