@@ -1,17 +1,17 @@
 -- The steps of telling a part: bytes moved to the front, how far a part is told, what the calls answer.
 -- Assumes nothing.
-use Prim.Native.Nat.{ℕ, zero, suc, _+_, _-_, _%_, _^_, _<_, _≤_}
-use mathlib.Core.Bool.{Bool, true, false, _||_}
+use Prim.Native.Nat.{ℕ, suc, _+_, _-_, _<_, _≤_}
+use mathlib.Core.Bool.{Bool, true, false}
 use mathlib.Core.List.{List, [], _∷_, _++_, append-assoc}
 use mathlib.Core.Path.{_≡_, refl, sym, ap, _∙_}
 use native.Mathlib.Omega.{arith}
 use native.Mathlib.Nat.{add-zero, add-suc, suc-add}
 use native.Mathlib.Numerals.{add-one}
 use lib.Dec.{eqb}
-use lib.ListN.{length, take, drop, getD, set, length-set, length-take, length-drop}
+use lib.ListN.{length, take, drop, getD, set, length-drop}
 use lib.Seq.{sets, sets-eq, length-sets, take-suc, getD-set-other, getD-drop, length-take-le}
-use Rattle.base.specs.Pick.{pick, pick-true, pick-false, tests}
-use Rattle.base.specs.Answer.{Answer, gives, refuses}
+use Rattle.base.specs.Pick.{pick-true, pick-false, tests}
+use Rattle.base.specs.Answer.{gives, refuses}
 use Rattle.numbers.specs.Number.{Numeral, readNumber, put}
 use Rattle.numbers.specs.Theorems.{number-within}
 use Rattle.lists.specs.List.{cutBlock}
@@ -19,7 +19,7 @@ use Rattle.lists.specs.Theorems.{cut-inside}
 use Rattle.state.specs.Call.{Left}
 use Rattle.state.specs.Take.{takeCall}
 use Rattle.state.specs.declared.State.{State}
-use Rattle.parts.specs.Parts.{wrapped, inBlock, placeIn, carried, Header, Opens, headedBy, openPart, tellable, Carry, Feeds, fedBy, fed, feedPart}
+use Rattle.parts.specs.Parts.{wrapped, inBlock, placeIn, carried, headedBy, openPart, tellable, fedBy, fed, feedPart}
 
 -- A run of stores, and one more; what stands behind it stays.
 sets-more : (xs l : List ℕ) (i x : ℕ) → set (sets l i xs) (i + length xs) x ≡ sets l i (xs ++ (x ∷ []))

@@ -2,7 +2,7 @@
 -- Assumes nothing.
 use Prim.Native.Nat.{ℕ, _*_, _≤_, _<_}
 use mathlib.Core.Path.{_≡_, refl, sym, ap, _∙_}
-use mathlib.Core.Bool.{Bool, true, false}
+use mathlib.Core.Bool.{Bool}
 use mathlib.Core.List.{List}
 use native.Mathlib.Omega.{arith}
 use lib.ListN.{getD, take, drop, getD-replicate, length-take, length-drop}
@@ -12,28 +12,13 @@ use Rattle.base.specs.Answer.{gives, refuses}
 use Rattle.rules.specs.Tables.{parentOf, rank, noteOf, placed, par, lev}
 use Rattle.rules.specs.Reading.{above, lowest, reach, childOf, soleBelow, sole, cut, rootOf, piece}
 use Rattle.state.specs.Layout.{stored, tablesIn, forestIn}
-use Rattle.state.specs.Test.{isBuilding, isRead}
 use Rattle.state.specs.Call.{headRefusal}
-use Rattle.state.specs.Ask.{asks, askOne, askTwo}
+use Rattle.state.specs.Ask.{askOne, askTwo}
 use Rattle.state.specs.Laws.Lists.{all-zeros}
 use Rattle.state.specs.declared.State.{State}
 use Rattle.state.specs.declared.Stage.{Stage}
-use Rattle.state.specs.declared.Stage.the-variants.{Building, Built, Reading, Read}
 use Rattle.asking.specs.Cut.{Unmarked}
 use Rattle.testing.specs.Laws.Head.{Passed}
-
--- The stages of a question are not Building.
-pub asks-later : (g : Stage) → asks g ≡ true → isBuilding g ≡ false
-asks-later Building e = sym e
-asks-later Built e = refl
-asks-later Reading e = refl
-asks-later Read e = refl
-
-pub read-later : (g : Stage) → isRead g ≡ true → isBuilding g ≡ false
-read-later Building e = sym e
-read-later Built e = refl
-read-later Reading e = refl
-read-later Read e = refl
 
 -- No mark stands in a table that the head let pass.
 pub passed-unmarked : {s : State} {f h : List ℕ} → Passed s f h → Unmarked (s .n) f

@@ -28,7 +28,7 @@ use Rattle.state.specs.Call.{boundsRefusal, headRefusal, headed, moved, leaves}
 use Rattle.state.specs.Start.{started, startCall}
 use Rattle.state.specs.Adopt.{adoptedState, adoptRefusal, adoptCall}
 use Rattle.state.specs.Take.{tell, taken, takeIn, takeCall}
-use Rattle.state.specs.Close.{read, openCall, endBuilding, endReading, closeIn, closeCall}
+use Rattle.state.specs.Close.{openCall, endBuilding, endReading, closeIn, closeCall}
 use Rattle.state.specs.Ask.{askOne, askTwo, parentCall, pieceCall, cutCall, soleCall}
 use Rattle.state.specs.declared.State.{State}
 use Rattle.state.specs.declared.Stage.the-variants.{Built, Reading, Read}

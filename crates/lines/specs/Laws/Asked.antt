@@ -1,27 +1,26 @@
 -- What the questions of a report answer, and the steps from line to line.
 -- Assumes nothing.
-use Prim.Native.Nat.{ℕ, zero, suc, _+_, _*_, _<_, _≤_}
-use mathlib.Core.Bool.{Bool, true, false, _&&_, _||_, not, cond}
-use mathlib.Core.List.{List, [], _∷_, _++_}
-use mathlib.Core.Logic.{_⊎_, inl, inr}
-use mathlib.Core.Path.{_≡_, refl, sym, ap, _∙_}
+use Prim.Native.Nat.{ℕ, _+_, _<_, _≤_}
+use mathlib.Core.Bool.{Bool, true, false, _&&_, not, cond}
+use mathlib.Core.List.{List, []}
+use mathlib.Core.Path.{_≡_, refl, ap, _∙_}
 use native.Mathlib.Omega.{arith}
-use native.Mathlib.Decide.{ℕ-discrete, decLt}
+use native.Mathlib.Decide.{ℕ-discrete}
 use native.Mathlib.Numerals.{add-one}
 use borrow.Author.Tests.{ne-eqb}
-use lib.Dec.{T, ltb, leb, eqb}
+use lib.Dec.{T, eqb}
 use lib.ListN.{length, getD, set, length-set}
 use lib.Seq.{getD-set-same, getD-set-other}
-use Rattle.base.specs.Pick.{pick, pick-true, pick-false, tests}
+use Rattle.base.specs.Pick.{tests}
 use Rattle.base.specs.Answer.{Answer, gives, refuses}
 use Rattle.base.specs.Truth.{T-true}
 use Rattle.numbers.specs.Number.{Wrote}
 use Rattle.lists.specs.Laws.Link.{never-both}
 use Rattle.rules.specs.Tables.{Tables, parentOf, placed, par}
-use Rattle.rules.specs.Reading.{piece, cut, sole, soleBelow, childOf, reach}
+use Rattle.rules.specs.Reading.{piece, cut, sole, soleBelow, childOf}
 use Rattle.state.specs.Layout.{tablesIn}
-use Rattle.state.specs.Test.{isRead, isBuilding, sound}
-use Rattle.state.specs.Call.{boundsRefusal, headRefusal}
+use Rattle.state.specs.Test.{isRead, sound}
+use Rattle.state.specs.Call.{headRefusal}
 use Rattle.state.specs.Ask.{asks, askOne, askTwo, parentCall, pieceCall, cutCall, soleCall}
 use Rattle.state.specs.Laws.Keeps.{head-known}
 use Rattle.state.specs.declared.State.{State}
@@ -29,8 +28,8 @@ use Rattle.state.specs.declared.Stage.{Stage}
 use Rattle.state.specs.declared.Stage.the-variants.{Building, Built, Reading, Read}
 use Rattle.text.specs.Lines.{fragmentLine, soleLine, store}
 use Rattle.text.specs.Put.{Put, Line, ample, within}
-use Rattle.text.specs.Laws.Put.{put-none, put-then, line-then, line-less, within-back}
-use Rattle.lines.specs.Report.{fragmentAt, soleAt, solesFrom, linesTo, reportLines, reportCall, reportMost}
+use Rattle.text.specs.Laws.Put.{put-none, line-then, line-less, within-back}
+use Rattle.lines.specs.Report.{fragmentAt, soleAt, linesTo, reportLines, reportCall, reportMost}
 
 -- A number or a verdict that was asked for; a refusal counts as 0 and as no.
 abbrev pub numberOf : Answer ℕ → ℕ

@@ -27,7 +27,7 @@ use Rattle.state.specs.Laws.Sound.{frag-found, held-found}
 use Rattle.state.specs.Laws.Answers.{headed-refused, headed-passed}
 use Rattle.state.specs.declared.State.{State}
 use Rattle.state.specs.declared.Stage.{Stage}
-use Rattle.state.specs.declared.Stage.the-variants.{Building, Built, Reading, Read}
+use Rattle.state.specs.declared.Stage.the-variants.{Built, Reading, Read}
 use Rattle.state.specs.declared.Taken.the-variants.{On, Refused as Untaken}
 use Rattle.state.specs.declared.Closed.{Closed}
 use Rattle.state.specs.declared.Closed.the-variants.{Read as Ended, False, Refused as Unclosed}
@@ -43,19 +43,6 @@ module _ (t : Tables) (v p : ℕ) (ep : p ≡ par t v) where
   pub seen-child : (p ≡ v → ⊥) → (m : ℕ) → m ≡ markOf t v → ltb 0 m ≡ seen t v
   unfolding seen
   seen-child d m e = rw (← ep, ne-eqb p v d, e)
-
--- The stages that open and close a reading pass are not Building.
-pub opens-later : (g : Stage) → opens g ≡ true → isBuilding g ≡ false
-opens-later Building e = sym e
-opens-later Built e = refl
-opens-later Reading e = refl
-opens-later Read e = refl
-
-pub reading-later : (g : Stage) → isReading g ≡ true → isBuilding g ≡ false
-reading-later Building e = sym e
-reading-later Built e = refl
-reading-later Reading e = refl
-reading-later Read e = refl
 
 -- What is left where notes and marks are cleared.
 module _ {s : State} {f h : List ℕ} (p : Passed s f h) (f′ : List ℕ) (b : f′ ≡ wiped (2 * s .n) (stored * s .n) f) (g : Stage) (passes entries : ℕ) where

@@ -58,11 +58,6 @@ pub tables-state : (s s′ : State) (f h : List ℕ) → s′ .n ≡ s .n → s�
 unfolding tablesIn
 tables-state s s′ f h n e c = rw (n, e, c)
 
--- The words of the held table past the links do not count.
-pub tables-held-same : (s : State) (f h h′ : List ℕ) → take (s .held) h′ ≡ take (s .held) h → tablesIn s f h′ ≡ tablesIn s f h
-unfolding tablesIn
-tables-held-same s f h h′ e = rw e
-
 -- The words of the fragment table past the four sections do not count.
 pub tables-frag-same : (s : State) (f f′ h : List ℕ) → take (stored * s .n) f′ ≡ take (stored * s .n) f → tablesIn s f′ h ≡ tablesIn s f h
 unfolding tablesIn

@@ -18,6 +18,7 @@ use Rattle.state.specs.Laws.Sound.{Sound, sound-known}
 use Rattle.state.specs.Laws.Tests as plain
 use Rattle.state.specs.declared.State.{State}
 use Rattle.state.specs.declared.Stage.{Stage}
+use Rattle.state.specs.declared.Stage.the-variants.{Building, Built, Reading, Read}
 use Rattle.testing.specs.Test.{soundButLinks, linksFit, headButLinks}
 use Rattle.testing.specs.Laws.Test.{sound-is, sound-outside}
 
@@ -68,8 +69,15 @@ pub record Passed (s : State) (f h : List ℕ) : Type 0 where
   pub settled : isBuilding (s .stage) ≡ false
   pub found : Sound s f h
 
+-- A stage in which a call is allowed that never is in Building.
+later : (allowed : Stage → Bool) → allowed Building ≡ false → (g : Stage) → allowed g ≡ true → isBuilding g ≡ false
+later allowed never Building e = sym e ∙ never
+later allowed never Built e = refl
+later allowed never Reading e = refl
+later allowed never Read e = refl
+
 -- A call that is allowed in some stages, but never in Building: this is its head, and what it lets pass.
-module _ (allowed : Stage → Bool) (later : (g : Stage) → allowed g ≡ true → isBuilding g ≡ false) (s : State) (f h : List ℕ) (r : ℕ) (b : Bool) (eb : b ≡ allowed (s .stage))
+module _ (allowed : Stage → Bool) (never : allowed Building ≡ false) (s : State) (f h : List ℕ) (r : ℕ) (b : Bool) (eb : b ≡ allowed (s .stage))
     (er : r ≡ headButLinks b s f h) where
   pub head-is : r ≡ headRefusal allowed s f h
   head-is = er ∙ elim (ℕ-discrete (boundsRefusal (s .n) (s .k) (length f) (length h)) 0) [
@@ -78,7 +86,7 @@ module _ (allowed : Stage → Bool) (later : (g : Stage) → allowed g ≡ true 
       | no a ↦ let z = T-false (allowed (s .stage)) a in sym (due-stage b s f h _ refl q (eb ∙ z)) ∙ plain.head-stage allowed s f h _ refl q z
       | yes a ↦
           let z = T-true (allowed (s .stage)) a in
-          let same = sound-outside s f h (later (s .stage) z) in
+          let same = sound-outside s f h (later allowed never (s .stage) z) in
           elim (T-dec (soundButLinks s f h)) [
             | no x ↦ let w = T-false (soundButLinks s f h) x in sym (due-tables b s f h _ refl q (eb ∙ z) (sym w)) ∙ plain.head-unsound allowed s f h _ refl q z (sym (same ∙ w))
             | yes x ↦ let w = T-true (soundButLinks s f h) x in sym (due-none b s f h _ refl q (eb ∙ z) (sym w)) ∙ plain.head-sound allowed s f h _ refl q z (sym (same ∙ w))
@@ -89,7 +97,7 @@ module _ (allowed : Stage → Bool) (later : (g : Stage) → allowed g ≡ true 
   pub head-passed : r ≡ 0 → Passed s f h
   head-passed z =
       let k = head-known b s f h (sym er ∙ z) in
-      let g = later (s .stage) (sym eb ∙ k .may) in
+      let g = later allowed never (s .stage) (sym eb ∙ k .may) in
       let x : T (sound s f h) = rw (sound-outside s f h g) (k .but-links) in
       record { bounds = headed-bounds k; settled = g; found = sound-known s f h (headed-bounds k) x }
 

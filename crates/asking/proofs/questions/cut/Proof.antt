@@ -7,22 +7,22 @@ use Rattle.state.specs.Ask.{cutCall}
 use Rattle.state.specs.Test.{isRead}
 use Rattle.testing.specs.Laws.Head.{head-is, head-passed}
 use Rattle.testing.specs.Laws.Whole.{passed-whole}
-use Rattle.asking.specs.Laws.Asked.{read-later, passed-unmarked, one-refused, one-far, one-answer, same-cut}
+use Rattle.asking.specs.Laws.Asked.{passed-unmarked, one-refused, one-far, one-answer, same-cut}
 use borrow.Author.Needs.{needs}
 use Rattle.asking.proofs.questions.cut.Statement.{statement}
 use Rattle.asking.proofs.questions.cut.Tie as tie
 
 returns : tie.Need-returns
 unfolding cutCall
-returns c = (c .not-judged .ensures ∙ one-refused isRead _ _ _ _ (head-is isRead read-later _ _ _ _ _ (c .before .before .before .before .is-read .ensures) (c .before .before .head .ensures)) _ _ (λ e. omega arith), refl)
+returns c = (c .not-judged .ensures ∙ one-refused isRead _ _ _ _ (head-is isRead refl _ _ _ _ _ (c .before .before .before .before .is-read .ensures) (c .before .before .head .ensures)) _ _ (λ e. omega arith), refl)
 
 returns-2 : tie.Need-returns-2
 unfolding cutCall
-returns-2 c = (c .not-judged2 .ensures ∙ one-far isRead _ _ _ _ (head-is isRead read-later _ _ _ _ _ (c .before .before .before .before .before .is-read .ensures) (c .before .before .before .head .ensures)) _ _ (omega arith) (omega arith), refl)
+returns-2 c = (c .not-judged2 .ensures ∙ one-far isRead _ _ _ _ (head-is isRead refl _ _ _ _ _ (c .before .before .before .before .before .is-read .ensures) (c .before .before .before .head .ensures)) _ _ (omega arith) (omega arith), refl)
 
 is-cut-requires : tie.Need-is-cut-requires
 is-cut-requires c κs =
-    let p = head-passed isRead read-later _ _ _ _ _ (c .before .before .before .before .before .is-read .ensures) (c .before .before .before .head .ensures) (omega arith) in
+    let p = head-passed isRead refl _ _ _ _ _ (c .before .before .before .before .before .is-read .ensures) (c .before .before .before .head .ensures) (omega arith) in
     (passed-whole p, passed-unmarked p)
 
 returns-3 : tie.Need-returns-3
@@ -30,7 +30,7 @@ unfolding cutCall
 returns-3 c =
     let a = c .before .before .before .before .before .before .before .before .before .before .before .before .args in
     let d = c .before .before .before .is-cut .ensures in (
-      c .judged .ensures ∙ ap gives (d .0 ∙ same-cut (a .s) _ _ (a .v)) ∙ one-answer isRead _ _ _ _ (head-is isRead read-later _ _ _ _ _ (c .before .before .before .before .before .before .before .before .before .is-read .ensures) (c .before .before .before .before .before .before .before .head .ensures)) _ _ (omega arith) (omega arith),
+      c .judged .ensures ∙ ap gives (d .0 ∙ same-cut (a .s) _ _ (a .v)) ∙ one-answer isRead _ _ _ _ (head-is isRead refl _ _ _ _ _ (c .before .before .before .before .before .before .before .before .before .is-read .ensures) (c .before .before .before .before .before .before .before .head .ensures)) _ _ (omega arith) (omega arith),
       d .1,
     )
 

@@ -1,7 +1,7 @@
 -- `state::words::clear` meets its contract: after each turn the words below i are cleared.
 -- Assumes nothing.
 use Prim.Native.Nat.{_≤_, _-_, max}
-use mathlib.Core.Path.{_≡_, refl, sym, ap, _∙_}
+use mathlib.Core.Path.{_≡_, refl, _∙_}
 use native.Mathlib.Omega.{arith}
 use borrow.Author.Needs.{needs}
 use lib.ListN.{length, length-set}
