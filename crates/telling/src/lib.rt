@@ -1,7 +1,16 @@
-// Reads the file links.sev once for each pass, in parts, and prints the report. What a file holds no promise can say: what is told and what is
-// printed is made by `parts`, `forest` and `lines`.
+// A list file told and reported without reading it: what was read is told, and the answer says what to do next. State, place in the file, what
+// is left of an unfinished number or link, and the step of the work travel in one record.
+ghost use mathlib.Core.Path.{_≡_};
+ghost use Rattle.numbers.specs.Answers.{toldEnd};
+ghost use Rattle.state.specs.Answers.{begunTold};
+ghost use Rattle.state.specs.Close.{openCall, closeCall};
+ghost use Rattle.parts.specs.Parts.{openPart, feedPart};
+ghost use Rattle.lines.specs.Report.{reportCall};
+ghost use Rattle.telling.specs.declared.Step.the-variants.{Head};
+ghost use Rattle.telling.specs.Tell.{sizeOf, isFirst, said, turned, goes, nextDoes, rereads, tellingOf, beginning, refusing, missing, reporting, opening, ending, feeding, entering, unfinished, entered, heading, parted, given, tellCall};
 use forest::Closed;
 use forest::Refusal;
+use forest::Stage;
 use forest::Started;
 use forest::State;
 use forest::Taken;
@@ -9,206 +18,321 @@ use numbers::Written;
 use parts::Fed;
 use parts::Opened;
 
-// 'with k = 4 and room for n up to 512'
-const ROOM: usize = 4;
+// A link has at most so many bytes.
+const LINK: usize = 6;
 
-const FRAG_WORDS: usize = 8192;
+// Where the work stands: nothing was read; a pass begins, and the head of the file is to come; in the links; over.
+pub enum Step {
+    First,
+    Head,
+    Links,
+    Over,
+}
 
-const HELD_WORDS: usize = 2048;
+pub struct Telling {
+    pub state: State,
+    pub step: Step,
+    // the byte of the file that stands at the buffer's front
+    pub offset: usize,
+    // how many bytes stand there: the next read goes behind them
+    pub have: usize,
+}
 
-// Bytes of a part, and of the text.
-const PART: usize = 4096;
-
-const TEXT: usize = 65536;
-
-// How a pass goes on.
-enum Step {
-    Again(State),
-    Ended(State),
-    Refused(Refusal),
+// What reading answered: so many bytes more, the end of the file, that it failed, or that there is no such file.
+pub enum Heard {
+    Bytes(usize),
+    End,
+    Failed,
     NoFile,
 }
 
-fn refused(number: u32, place: usize) -> Step {
-    Step::Refused(Refusal {
-        number: number,
-        place: place,
+// What to do next: read more; read again, from the start of the file; or stop, and print so many bytes of the text. Where a read failed there
+// is nothing to print.
+pub enum Next {
+    More(Telling),
+    Again(Telling),
+    Report(State, usize),
+    Refused(Refusal, usize),
+    NoFile(usize),
+    Failed,
+}
+
+// To tell a file with room k.
+pub fn begin(k: usize) -> Telling
+    ensures { λ r. ⌜ r ≡ beginning k ⌝ }
+{
+    Telling {
+        state: State::begun(0, k, Stage::Building),
+        step: Step::First,
+        offset: 0,
+        have: 0,
+    }
+}
+
+fn size_of(written: Written) -> usize
+    ensures { λ r. ⌜ r ≡ sizeOf (toldEnd written) ⌝ }
+{
+    match written {
+        Written::End(size) => size,
+        Written::Refused(_) => 0,
+    }
+}
+
+fn refuse(number: u32, place: usize, text: &mut [u8]) -> Next
+    ensures { λ r. ⌜ said r (now (text .exit)) ≡ refusing number place (now (text .entry)) ⌝ }
+{
+    let size = size_of(lines::refusal_line(number, place, text));
+    Next::Refused(
+        Refusal {
+            number: number,
+            place: place,
+        },
+        size,
+    )
+}
+
+fn no_file(text: &mut [u8]) -> Next
+    ensures { λ r. ⌜ said r (now (text .exit)) ≡ missing (now (text .entry)) ⌝ }
+{
+    Next::NoFile(size_of(lines::no_file_line(text)))
+}
+
+fn report(s: State, frag: &mut [u32], held: &[u32], text: &mut [u8]) -> Next
+    ensures { λ r. ⌜ turned r (now (frag .exit)) (now (held .entry)) (now (text .exit)) ≡ reporting s (now (frag .entry)) (now (held .entry)) (reportCall s (now (frag .entry)) (now (held .entry)) (now (text .entry))) ⌝ }
+{
+    match lines::report(s, frag, held, text) {
+        Written::End(size) => Next::Report(s, size),
+        Written::Refused(bad) => refuse(bad.number, bad.place, text),
+    }
+}
+
+// The list is told again, to this state.
+fn again(s: State) -> Next
+    ensures { λ r. ⌜ nextDoes r ≡ rereads (tellingOf s Head 0 0) ⌝ }
+{
+    Next::Again(Telling {
+        state: s,
+        step: Step::Head,
+        offset: 0,
+        have: 0,
     })
 }
 
-fn open_file() -> i32 {
-    os::open_read(b"links.sev")
-}
-
-// Fills the buffer behind the `have` bytes at its front. Returns how many bytes stand there: fewer than it holds at the file's end only.
-fn fill(fd: i32, buffer: &mut [u8], have: usize) -> usize {
-    if have > buffer.len() {
-        return 0;
+fn open_again(s: State, frag: &mut [u32], held: &mut [u32], text: &mut [u8]) -> Next
+    ensures { λ r. ⌜ turned r (now (frag .exit)) (now (held .exit)) (now (text .exit)) ≡ opening (openCall s (now (frag .entry)) (now (held .entry))) (now (text .entry)) ⌝ }
+{
+    match forest::open_reading(s, frag, held) {
+        Taken::On(next) => again(next),
+        Taken::Refused(bad) => refuse(bad.number, bad.place, text),
     }
-    have + io::read_full(fd, &mut buffer[have..])
 }
 
-// Tells the links of the file from byte `from` on, `have` bytes of them being there. The turns are never used up: each takes more than 600
-// links, so that refusal 12 comes first.
-fn tell_links(
-    fd: i32,
-    first: State,
+// The end of a pass.
+fn end_pass(s: State, frag: &mut [u32], held: &mut [u32], text: &mut [u8]) -> Next
+    ensures { λ r. ⌜ turned r (now (frag .exit)) (now (held .exit)) (now (text .exit)) ≡ ending (closeCall s (now (frag .entry)) (now (held .entry))) (now (text .entry)) ⌝ }
+{
+    match forest::close(s, frag, held) {
+        Closed::More(next) => again(next),
+        Closed::Done(next) => open_again(next, frag, held, text),
+        Closed::Read(next) => report(next, frag, held, text),
+        Closed::False(_) => refuse(9, 0, text),
+        Closed::Refused(bad) => refuse(bad.number, bad.place, text),
+    }
+}
+
+// The links of a part of the file: the bytes at the buffer's front.
+fn feed(
+    t: Telling,
     frag: &mut [u32],
     held: &mut [u32],
     buffer: &mut [u8],
-    from: usize,
-    have: usize,
-) -> Step {
-    let mut s = first;
-    let mut offset = from;
-    let mut there = have;
-    let mut turns: u32 = 65536;
-    while turns > 0 {
-        let len = fill(fd, buffer, there);
-        let last = len < buffer.len();
-        match parts::feed(s, frag, held, buffer, len, offset, last) {
-            Fed::On(next, at, left) => {
-                if last {
-                    return Step::Ended(next);
-                }
-                s = next;
-                offset = at;
-                there = left;
+    text: &mut [u8],
+    last: bool,
+) -> Next
+    ensures { λ r. ⌜ goes r (now (frag .exit)) (now (held .exit)) (now (buffer .exit)) (now (text .exit)) ≡ feeding last (now (text .entry)) (feedPart (t .state) (now (frag .entry)) (now (held .entry)) (now (buffer .entry)) (t .have) (t .offset) last) ⌝ }
+{
+    match parts::feed(t.state, frag, held, buffer, t.have, t.offset, last) {
+        Fed::On(next, at, left) => {
+            if last {
+                return end_pass(next, frag, held, text);
             }
-            Fed::Refused(bad) => {
-                return Step::Refused(bad);
-            }
+            Next::More(Telling {
+                state: next,
+                step: Step::Links,
+                offset: at,
+                have: left,
+            })
         }
-        turns -= 1;
-    }
-    refused(12, offset)
-}
-
-// Tells an open file. Another number of fragments than the state has is refused: the file is not the one that the forest was built for.
-fn tell_open(fd: i32, s: State, frag: &mut [u32], held: &mut [u32]) -> Step {
-    let mut buffer = [0u8; PART];
-    let len = fill(fd, &mut buffer, 0);
-    match parts::open(&mut buffer, len) {
-        Opened::List(n, begins, have) => {
-            if n as usize != s.n {
-                return refused(9, 0);
-            }
-            tell_links(fd, s, frag, held, &mut buffer, begins, have)
-        }
-        Opened::Refused(bad) => Step::Refused(bad),
+        Fed::Refused(bad) => refuse(bad.number, bad.place, text),
     }
 }
 
-fn tell_file(s: State, frag: &mut [u32], held: &mut [u32]) -> Step {
-    let fd = open_file();
-    if fd < 0 {
-        return Step::NoFile;
-    }
-    let step = tell_open(fd, s, frag, held);
-    libc::close(fd);
-    step
-}
-
-// Starts with the number of fragments that the file has.
-fn start_from(fd: i32, frag: &mut [u32], held: &mut [u32]) -> Step {
-    let mut buffer = [0u8; PART];
-    let len = fill(fd, &mut buffer, 0);
-    match parts::open(&mut buffer, len) {
-        Opened::List(n, _, _) => match State::start(n as usize, ROOM, frag, held) {
-            Started::Ready(s) => Step::Again(s),
-            Started::Refused(bad) => Step::Refused(bad),
-        },
-        Opened::Refused(bad) => Step::Refused(bad),
-    }
-}
-
-fn start(frag: &mut [u32], held: &mut [u32]) -> Step {
-    let fd = open_file();
-    if fd < 0 {
-        return Step::NoFile;
-    }
-    let step = start_from(fd, frag, held);
-    libc::close(fd);
-    step
-}
-
-fn open_reading(s: State, frag: &mut [u32], held: &mut [u32]) -> Step {
-    match forest::open_reading(s, frag, held) {
-        Taken::On(next) => Step::Again(next),
-        Taken::Refused(bad) => Step::Refused(bad),
-    }
-}
-
-fn close(s: State, frag: &mut [u32], held: &mut [u32]) -> Step {
-    match forest::close(s, frag, held) {
-        Closed::More(next) => Step::Again(next),
-        Closed::Done(next) => open_reading(next, frag, held),
-        Closed::Read(next) => Step::Ended(next),
-        Closed::False(_) => refused(9, 0),
-        Closed::Refused(bad) => Step::Refused(bad),
-    }
-}
-
-// One pass over the file.
-fn pass(s: State, frag: &mut [u32], held: &mut [u32]) -> Step {
-    match tell_file(s, frag, held) {
-        Step::Ended(told) => close(told, frag, held),
-        Step::Again(other) => Step::Again(other),
-        Step::Refused(bad) => Step::Refused(bad),
-        Step::NoFile => Step::NoFile,
-    }
-}
-
-// Passes until the list is read. They are never used up: each places a fragment, and there are at most 512.
-fn passes(frag: &mut [u32], held: &mut [u32]) -> Step {
-    let mut step = start(frag, held);
-    let mut turns: u32 = 1024;
-    while turns > 0 {
-        match step {
-            Step::Again(s) => {
-                step = pass(s, frag, held);
-            }
-            Step::Ended(last) => {
-                return Step::Ended(last);
-            }
-            Step::Refused(bad) => {
-                return Step::Refused(bad);
-            }
-            Step::NoFile => {
-                return Step::NoFile;
-            }
-        }
-        turns -= 1;
-    }
-    refused(9, 0)
-}
-
-// The text of what the passes ended in.
-fn text(step: Step, frag: &mut [u32], held: &[u32], out: &mut [u8]) -> Written {
+fn is_first(step: Step) -> bool
+    ensures { λ r. ⌜ r ≡ isFirst step ⌝ }
+{
     match step {
-        Step::Again(s) => lines::report(s, frag, held, out),
-        Step::Ended(s) => lines::report(s, frag, held, out),
-        Step::Refused(bad) => lines::refusal_line(bad.number, bad.place, out),
-        Step::NoFile => lines::no_file_line(out),
+        Step::First => true,
+        Step::Head => false,
+        Step::Links => false,
+        Step::Over => false,
     }
 }
 
-fn print(written: Written, out: &[u8]) {
-    match written {
-        Written::End(size) => {
-            if size <= out.len() {
-                io::write_all(1, &out[..size]);
-            }
+// The state that the links are told to, for the number of fragments that the head has: another one than before is refused, since the file is not
+// the one that the forest is built for.
+fn enter(t: Telling, n: usize, frag: &mut [u32], held: &mut [u32]) -> Started
+    ensures { λ r. ⌜ begunTold r (now (frag .exit)) (now (held .exit)) ≡ entering (t .state) (t .step) n (now (frag .entry)) (now (held .entry)) ⌝ }
+{
+    let s = t.state;
+    let step = t.step;
+    if is_first(step) {
+        return State::start(n, s.k, frag, held);
+    }
+    if n != s.n {
+        return Started::Refused(Refusal {
+            number: 9,
+            place: 0,
+        });
+    }
+    Started::Ready(s)
+}
+
+// Whether more bytes may mend what was refused: the bytes end inside the head, and the file has not ended.
+fn is_unfinished(number: u32, last: bool) -> bool
+    ensures { λ r. ⌜ r ≡ unfinished number last ⌝ }
+{
+    if last {
+        return false;
+    }
+    number == 8
+}
+
+// Tells the links that stand at the buffer's front, where the head of the file has n.
+fn enter_links(
+    t: Telling,
+    n: usize,
+    frag: &mut [u32],
+    held: &mut [u32],
+    buffer: &mut [u8],
+    text: &mut [u8],
+    last: bool,
+) -> Next
+    ensures { λ r. ⌜ goes r (now (frag .exit)) (now (held .exit)) (now (buffer .exit)) (now (text .exit)) ≡ entered (t .offset) (t .have) last (now (text .entry)) (now (buffer .entry)) (entering (t .state) (t .step) n (now (frag .entry)) (now (held .entry))) ⌝ }
+{
+    match enter(t, n, frag, held) {
+        Started::Ready(s) => {
+            let links = Telling {
+                state: s,
+                step: Step::Links,
+                offset: t.offset,
+                have: t.have,
+            };
+            feed(links, frag, held, buffer, text, last)
         }
-        Written::Refused(_) => {}
+        Started::Refused(bad) => refuse(bad.number, bad.place, text),
     }
 }
 
-pub fn print_report() {
-    let mut frag = [0u32; FRAG_WORDS];
-    let mut held = [0u32; HELD_WORDS];
-    let mut out = [0u8; TEXT];
-    let step = passes(&mut frag, &mut held);
-    let written = text(step, &mut frag, &held, &mut out);
-    print(written, &out);
+// The first part of a pass: the head, and what is there of the links.
+fn head(
+    t: Telling,
+    frag: &mut [u32],
+    held: &mut [u32],
+    buffer: &mut [u8],
+    text: &mut [u8],
+    last: bool,
+) -> Next
+    ensures { λ r. ⌜ goes r (now (frag .exit)) (now (held .exit)) (now (buffer .exit)) (now (text .exit)) ≡ heading t (now (frag .entry)) (now (held .entry)) (now (text .entry)) last (openPart (t .have) (now (buffer .entry))) ⌝ }
+{
+    match parts::open(buffer, t.have) {
+        Opened::List(n, begins, have) => {
+            let s = t.state;
+            let step = t.step;
+            let links = Telling {
+                state: s,
+                step: step,
+                offset: begins,
+                have: have,
+            };
+            enter_links(links, n as usize, frag, held, buffer, text, last)
+        }
+        Opened::Refused(bad) => {
+            if is_unfinished(bad.number, last) {
+                return Next::More(t);
+            }
+            refuse(bad.number, bad.place, text)
+        }
+    }
+}
+
+// A part of the file: the bytes at the buffer's front.
+fn part(
+    t: Telling,
+    frag: &mut [u32],
+    held: &mut [u32],
+    buffer: &mut [u8],
+    text: &mut [u8],
+    last: bool,
+) -> Next
+    ensures { λ r. ⌜ goes r (now (frag .exit)) (now (held .exit)) (now (buffer .exit)) (now (text .exit)) ≡ parted t (now (frag .entry)) (now (held .entry)) (now (buffer .entry)) (now (text .entry)) last (t .step) ⌝ }
+{
+    let step = t.step;
+    match step {
+        Step::First => head(t, frag, held, buffer, text, last),
+        Step::Head => head(t, frag, held, buffer, text, last),
+        Step::Links => feed(t, frag, held, buffer, text, last),
+        Step::Over => refuse(6, 0, text),
+    }
+}
+
+// `count` bytes more stand in the buffer, behind those that it had.
+fn give(
+    t: Telling,
+    frag: &mut [u32],
+    held: &mut [u32],
+    buffer: &mut [u8],
+    text: &mut [u8],
+    count: usize,
+    last: bool,
+) -> Next
+    ensures { λ r. ⌜ goes r (now (frag .exit)) (now (held .exit)) (now (buffer .exit)) (now (text .exit)) ≡ given t (now (frag .entry)) (now (held .entry)) (now (buffer .entry)) (now (text .entry)) count last ⌝ }
+{
+    let room = buffer.len();
+    if room < LINK {
+        return refuse(3, 0, text);
+    }
+    if room < count {
+        return refuse(3, 0, text);
+    }
+    if room - count < t.have {
+        return refuse(3, 0, text);
+    }
+    let s = t.state;
+    let step = t.step;
+    let there = Telling {
+        state: s,
+        step: step,
+        offset: t.offset,
+        have: t.have + count,
+    };
+    part(there, frag, held, buffer, text, last)
+}
+
+// Tells what was read.
+pub fn tell(
+    t: Telling,
+    frag: &mut [u32],
+    held: &mut [u32],
+    buffer: &mut [u8],
+    text: &mut [u8],
+    heard: Heard,
+) -> Next
+    ensures { λ r. ⌜ goes r (now (frag .exit)) (now (held .exit)) (now (buffer .exit)) (now (text .exit)) ≡ tellCall t (now (frag .entry)) (now (held .entry)) (now (buffer .entry)) (now (text .entry)) heard ⌝ }
+{
+    match heard {
+        Heard::Bytes(count) => give(t, frag, held, buffer, text, count, false),
+        Heard::End => give(t, frag, held, buffer, text, 0, true),
+        Heard::Failed => Next::Failed,
+        Heard::NoFile => no_file(text),
+    }
 }
