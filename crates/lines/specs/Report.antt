@@ -32,11 +32,11 @@ unfoldable pub solesFrom : ℕ → Tables → ℕ → List ℕ
 solesFrom n t a = linesTo (soleAt n t a) n
 
 -- 'Links counts the entries of the reading pass'
-unfoldable pub reportLines : State → Tables → List ℕ
-reportLines s t =
-    firstLine (s .n) (s .entries) (s .passes)
-    ++ (linesTo (fragmentAt (s .n) t) (s .n)
-    ++ linesTo (solesFrom (s .n) t) (s .n))
+unfoldable pub reportLines : (n entries passes : ℕ) → Tables → List ℕ
+reportLines n entries passes t =
+    firstLine n entries passes
+    ++ (linesTo (fragmentAt n t) n
+    ++ linesTo (solesFrom n t) n)
 
 -- 'room for n up to 512 (more gives 3)'
 abbrev pub reportMost : ℕ
@@ -47,4 +47,4 @@ unfoldable pub reportCall : State → List ℕ → List ℕ → List ℕ → Wro
 reportCall s f h out =
     pick (not (eqb (headRefusal isRead s f h) 0)) (record { answer = refuses (headRefusal isRead s f h) 0; buffer = out })
     (pick (ltb reportMost (s .n)) (record { answer = refuses 3 0; buffer = out })
-    (store out (reportLines s (tablesIn s f h))))
+    (store out (reportLines (s .n) (s .entries) (s .passes) (tablesIn s f h))))

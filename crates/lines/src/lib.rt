@@ -159,7 +159,7 @@ fn soles(
 
 fn all_lines(s: State, frag: &mut [u32], held: &[u32], parents: &[usize], out: &mut [u8]) -> usize
     requires { ⌜ Asking s (now frag) (now held) × Parents (s .n) (tablesIn s (now frag) (now held)) (now parents) ⌝ }
-    ensures { λ r. ⌜ Put (reportLines s (tablesIn s (now (frag .entry)) (now (held .entry)))) 0 (now (out .entry)) r (now (out .exit)) × (now (frag .exit) ≡ now (frag .entry)) ⌝ }
+    ensures { λ r. ⌜ Put (reportLines (s .n) (s .entries) (s .passes) (tablesIn s (now (frag .entry)) (now (held .entry)))) 0 (now (out .entry)) r (now (out .exit)) × (now (frag .exit) ≡ now (frag .entry)) ⌝ }
 {
     let first = text::first_line(out, s.n as u64, s.entries as u64, s.passes as u64);
     let second = fragments(s, frag, held, parents, out, first);

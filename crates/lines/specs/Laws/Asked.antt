@@ -188,7 +188,7 @@ module _ (s : State) (f h out : List ℕ) where
     unfolding reportCall
     report-many a e l = rw (e, p .head) (simp tests)
 
-    pub report-stored : (w : Wrote) → s .n ≤ reportMost → w ≡ store out (reportLines s (tablesIn s f h)) → w ≡ reportCall s f h out
+    pub report-stored : (w : Wrote) → s .n ≤ reportMost → w ≡ store out (reportLines (s .n) (s .entries) (s .passes) (tablesIn s f h)) → w ≡ reportCall s f h out
     unfolding reportCall
     report-stored w l e = e ∙ rw (p .head) (simp tests)
 

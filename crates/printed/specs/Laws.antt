@@ -1,0 +1,5 @@
+-- The laws that the theorems rest on.
+-- Assumes nothing.
+pub mod Pass
+pub mod Part
+pub mod Moments

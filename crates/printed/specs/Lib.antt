@@ -1,0 +1,3 @@
+pub mod Printed
+pub mod Run
+pub mod Laws
