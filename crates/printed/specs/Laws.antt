@@ -3,3 +3,5 @@
 pub mod Pass
 pub mod Part
 pub mod Moments
+pub mod Courses
+pub mod Prints

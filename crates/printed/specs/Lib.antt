@@ -1,3 +1,5 @@
 pub mod Printed
+pub mod Claims
 pub mod Run
 pub mod Laws
+pub mod Theorems
