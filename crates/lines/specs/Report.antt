@@ -32,19 +32,14 @@ unfoldable pub solesFrom : ℕ → Tables → ℕ → List ℕ
 solesFrom n t a = linesTo (soleAt n t a) n
 
 -- 'Links counts the entries of the reading pass'
-unfoldable pub reportLines : State → Tables → List ℕ
-reportLines s t =
-    firstLine (s .n) (s .entries) (s .passes)
-    ++ (linesTo (fragmentAt (s .n) t) (s .n)
-    ++ linesTo (solesFrom (s .n) t) (s .n))
-
--- 'room for n up to 512 (more gives 3)'
-abbrev pub reportMost : ℕ
-reportMost = 512
+unfoldable pub reportLines : (n entries passes : ℕ) → Tables → List ℕ
+reportLines n entries passes t =
+    firstLine n entries passes
+    ++ (linesTo (fragmentAt n t) n
+    ++ linesTo (solesFrom n t) n)
 
 -- The report of a state in Read: the refusals at the head of a question that is asked in Read, then 3.
 unfoldable pub reportCall : State → List ℕ → List ℕ → List ℕ → Wrote
 reportCall s f h out =
     pick (not (eqb (headRefusal isRead s f h) 0)) (record { answer = refuses (headRefusal isRead s f h) 0; buffer = out })
-    (pick (ltb reportMost (s .n)) (record { answer = refuses 3 0; buffer = out })
-    (store out (reportLines s (tablesIn s f h))))
+    (store out (reportLines (s .n) (s .entries) (s .passes) (tablesIn s f h)))

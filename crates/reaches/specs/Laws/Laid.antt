@@ -2,9 +2,11 @@
 -- Assumes nothing.
 use Prim.Native.Nat.{ℕ, _+_, _-_, _*_, _≤_, _<_}
 use mathlib.Core.Path.{_≡_, refl, sym, ap, _∙_}
+use mathlib.Core.Bool.{false}
 use mathlib.Core.List.{List, _++_}
 use native.Mathlib.Omega.{arith}
 use native.Mathlib.Decide.{decLt}
+use lib.Dec.{T}
 use lib.ListN.{length, getD, take, drop, length-append, length-take, length-drop, List·getD-append, getD-replicate}
 use lib.Seq.{ext-getD, getD-take, getD-drop, getD-append-add}
 use Rattle.base.specs.Pick.{tests}
@@ -13,15 +15,19 @@ use Rattle.rules.specs.Tables.{Tables, parentOf, rank, noteOf, placed, par, lev
 use Rattle.rules.specs.Reading.{above, lowest, reach, childOf, soleBelow, cut, rootOf, piece}
 use Rattle.rules.specs.Laws.Search.{table-length, table-at}
 use Rattle.state.specs.Layout.{stored, wiped, tablesIn, forestIn}
-use Rattle.state.specs.Test.{isRead}
+use Rattle.state.specs.Test.{isBuilding, isRead}
 use Rattle.state.specs.Call.{headRefusal}
 use Rattle.state.specs.Laws.Lists.{all-zeros}
 use Rattle.state.specs.Laws.Clear.{wiped-length, wiped-front, wiped-past, wiped-within}
+use Rattle.state.specs.Laws.Sound.{sound-known}
+use Rattle.state.specs.Laws.Keeps.{head-known}
 use Rattle.state.specs.declared.State.{State}
+use Rattle.state.specs.declared.Stage.{Stage}
+use Rattle.state.specs.declared.Stage.the-variants.{Building, Built, Reading, Read}
 use Rattle.testing.specs.Laws.Head.{Passed}
 use Rattle.testing.specs.Laws.Whole.{passed-whole}
 use Rattle.reaches.specs.Spread.{flag, cutAt, soleAt, laid, spreadIn}
-use Rattle.reaches.specs.Order.{Orderable, Orders}
+use Rattle.reaches.specs.Order.{Only, Orderable, Orders}
 use Rattle.reaches.specs.Passes.{Ready}
 use Rattle.reaches.specs.Judged.{Lows, Pieces, Reached, Soles, cutSo, Cuttable, Cuts}
 use Rattle.reaches.specs.Laws.Only.{only-forest, only-whole}
@@ -86,10 +92,10 @@ module _ (n : ℕ) (t : Tables) (f : List ℕ) (long : 7 * n ≤ length f) where
 
 -- The words before and behind a part that is cleared.
 module _ (from to : ℕ) (l : List ℕ) (b : from ≤ to) (g : to ≤ length l) where
-  cleared-before : (i : ℕ) → i < from → getD (wiped from to l) i 0 ≡ getD l i 0
+  pub cleared-before : (i : ℕ) → i < from → getD (wiped from to l) i 0 ≡ getD l i 0
   cleared-before i h = sym (getD-take from (wiped from to l) i 0 h) ∙ ap (λ (x : List ℕ). getD x i 0) (wiped-front from to l b g) ∙ getD-take from l i 0 h
 
-  cleared-behind : (i : ℕ) → to ≤ i → getD (wiped from to l) i 0 ≡ getD l i 0
+  pub cleared-behind : (i : ℕ) → to ≤ i → getD (wiped from to l) i 0 ≡ getD l i 0
   cleared-behind i h =
       let e : i ≡ to + (i - to) = omega arith in
       rw (e, ← getD-drop to (wiped from to l) (i - to) 0, ← getD-drop to l (i - to) 0, wiped-past from to l b g)
@@ -202,8 +208,20 @@ passed-orderable {s} {f} {h} p =
           ∙ ap (λ (x : List ℕ). getD x (i - 4 * n) 0) z ∙ getD-replicate (12 * n) (i - 4 * n) 0 0 (omega arith);
     }
 
+-- The same where no refusal is due.
+read-settled : (g : Stage) → T (isRead g) → isBuilding g ≡ false
+read-settled Building p = absurd p
+read-settled Built p = refl
+read-settled Reading p = refl
+read-settled Read p = refl
+
+pub read-orderable : (s : State) (f h : List ℕ) → headRefusal isRead s f h ≡ 0 → Orderable (s .n) f
+read-orderable s f h e =
+    let k = head-known isRead s f h e in
+    passed-orderable {h = h} (record { bounds = k .bounds; settled = read-settled (s .stage) (k .allows); found = sound-known s f h (k .bounds) (k .passes .tested) })
+
 -- The answers are asked of the fragment table alone.
-pub laid-alone : (s : State) (f h : List ℕ) → laid (s .n) (forestIn (s .n) f) f ≡ laid (s .n) (tablesIn s f h) f
+laid-alone : (s : State) (f h : List ℕ) → laid (s .n) (forestIn (s .n) f) f ≡ laid (s .n) (tablesIn s f h) f
 unfolding laid piece rootOf cutAt cut soleAt soleBelow reach above lowest childOf par lev placed rank parentOf noteOf tablesIn
 laid-alone s f h = refl
 
@@ -212,6 +230,13 @@ module _ (s : State) (f h : List ℕ) (r : ℕ) (e : r ≡ headRefusal isRead s 
   unfolding spreadIn
   spread-refused d = rw (← e) (simp tests)
 
-  pub spread-laid : r ≡ 0 → (g : List ℕ) → g ≡ laid (s .n) (forestIn (s .n) f) f → g ≡ spreadIn s f h
+  pub spread-is : r ≡ 0 → spreadIn s f h ≡ laid (s .n) (forestIn (s .n) f) f
   unfolding spreadIn
-  spread-laid z g q = rw (← e) (simp tests (q ∙ laid-alone s f h))
+  spread-is z = rw (← e) (simp tests (sym (laid-alone s f h)))
+
+  pub spread-laid : r ≡ 0 → (g : List ℕ) → g ≡ laid (s .n) (forestIn (s .n) f) f → g ≡ spreadIn s f h
+  spread-laid z g q = q ∙ sym (spread-is z)
+
+-- Only the three sections differ.
+pub laid-only : (n : ℕ) (t : Tables) (f : List ℕ) → 7 * n ≤ length f → Only (4 * n) (7 * n) f (laid n t f)
+laid-only n t f long = record { long = laid-length n t f long; before = λ i h. laid-before n t f long i h; behind = λ i h. laid-behind n t f long i h }
