@@ -39,7 +39,7 @@ pub(crate) fn smallest(frag: &[u32], n: usize, v: usize) -> usize
 }
 
 // The least of a fragment's own level and the levels that it noted.
-pub(crate) fn low(frag: &[u32], n: usize, v: usize) -> usize
+pub fn low(frag: &[u32], n: usize, v: usize) -> usize
     ensures { λ r. ⌜ r ≡ lowest (forestIn n (now (frag .entry))) v ⌝ }
 {
     let own = level_of(frag, n, v);

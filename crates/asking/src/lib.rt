@@ -6,6 +6,7 @@ mod questions;
 
 pub use ask::level;
 pub use ask::parent;
+pub use count::low;
 pub use questions::cut;
 pub use questions::piece;
 pub use questions::sole;

@@ -1,3 +1,6 @@
 -- The lemmas that the proofs of the code rest on.
 -- Assumes nothing.
-pub mod Asked
+pub mod Lines
+pub mod Threads
+pub mod Length
+pub mod Written

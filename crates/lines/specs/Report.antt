@@ -38,13 +38,8 @@ reportLines n entries passes t =
     ++ (linesTo (fragmentAt n t) n
     ++ linesTo (solesFrom n t) n)
 
--- 'room for n up to 512 (more gives 3)'
-abbrev pub reportMost : ℕ
-reportMost = 512
-
 -- The report of a state in Read: the refusals at the head of a question that is asked in Read, then 3.
 unfoldable pub reportCall : State → List ℕ → List ℕ → List ℕ → Wrote
 reportCall s f h out =
     pick (not (eqb (headRefusal isRead s f h) 0)) (record { answer = refuses (headRefusal isRead s f h) 0; buffer = out })
-    (pick (ltb reportMost (s .n)) (record { answer = refuses 3 0; buffer = out })
-    (store out (reportLines (s .n) (s .entries) (s .passes) (tablesIn s f h))))
+    (store out (reportLines (s .n) (s .entries) (s .passes) (tablesIn s f h)))

@@ -38,7 +38,7 @@ module _ (n : ℕ) (f : List ℕ) (v u : ℕ) where
       first-found _ n u h (eq→eqb (rootOf (forestIn n f) u) _ e) (λ j l t. g j l (eqb→eq (rootOf (forestIn n f) j) _ t))
 
 -- A fragment has the root of its parent; so one with a smaller parent is not the smallest of its tree.
-root-parent : {n : ℕ} {f : List ℕ} → Whole n f → (u : ℕ) → u < n → (par (forestIn n f) u ≡ u → ⊥) → rootOf (forestIn n f) (par (forestIn n f) u) ≡ rootOf (forestIn n f) u
+pub root-parent : {n : ℕ} {f : List ℕ} → Whole n f → (u : ℕ) → u < n → (par (forestIn n f) u ≡ u → ⊥) → rootOf (forestIn n f) (par (forestIn n f) u) ≡ rootOf (forestIn n f) u
 unfolding rootOf
 root-parent {n} {f} w u h d =
     let t = forestIn n f in

@@ -1,44 +1,40 @@
 -- `lines::report` meets its contract.
 -- Assumes nothing.
-use Rattle.state.specs.Answers.{judgedTold}
-use mathlib.Core.List.{[]}
-use mathlib.Core.Bool.{true, false}
-use mathlib.Core.Path.{sym, ap, _∙_}
-use Rattle.lines.specs.Laws.Asked.{passed, report-refused}
+use native.Mathlib.Omega.{arith}
+use mathlib.Core.Path.{sym, _∙_}
+use Rattle.reaches.specs.Laws.Laid.{spread-refused}
+use Rattle.lines.specs.Laws.Written.{report-refused, answered-fit, answered-report, answered-back}
 use borrow.Author.Needs.{needs}
 use Rattle.lines.proofs.report.Statement.{statement}
 use Rattle.lines.proofs.report.Tie as tie
 
-written-requires : tie.Need-written-requires
-written-requires c κs = rw (c .before .before .before .before .before .before .cut .ensures .1) (passed _ _ _ [] true (sym (c .before .before .before .before .before .before .cut .ensures .0) ∙ ap judgedTold (c .before .before .enum-told .given .1)))
-
-written-requires-2 : tie.Need-written-requires-2
-written-requires-2 c κs = rw (c .before .before .before .before .before .before .cut .ensures .1) (passed _ _ _ [] false (sym (c .before .before .before .before .before .before .cut .ensures .0) ∙ ap judgedTold (c .before .before .enum-told2 .given .1)))
-
 returns : tie.Need-returns
-returns c = let k = c .before .before .before .before .before .before .before .before .before .before .before .cut .ensures .1 in let e = c .before .before .before .before .written .ensures in ((rw k at (e .0)), e .1 ∙ k)
+returns c = let e = c .before .before .before .before .spread .ensures in (report-refused _ _ _ _ _ (e .0) (omega arith) _ (c .not-written .ensures), e .1 ∙ sym (spread-refused _ _ _ _ (e .0) (omega arith)))
+
+written-requires : tie.Need-written-requires
+written-requires c κs = let e = c .before .before .before .before .before .spread .ensures in answered-fit _ _ _ _ (e .0) (omega arith) _ (e .1)
+
+mul-clear : tie.Need-mul-clear
+mul-clear c = let e = c .before .before .before .before .before .before .before .before .before .before .before .before .spread .ensures in omega (arith, answered-fit _ _ _ _ (e .0) (omega arith) _ (e .1) .told .whole .few)
+
+mul-clear-2 : tie.Need-mul-clear-2
+mul-clear-2 c = let e = c .before .before .before .before .before .before .before .before .before .before .before .before .before .spread .ensures in omega (arith, answered-fit _ _ _ _ (e .0) (omega arith) _ (e .1) .told .whole .few)
 
 returns-2 : tie.Need-returns-2
-returns-2 c = let k = c .before .before .before .before .before .before .before .before .before .before .before .cut .ensures .1 in let e = c .before .before .before .before .written2 .ensures in ((rw k at (e .0)), e .1 ∙ k)
-
-returns-3 : tie.Need-returns-3
-returns-3 c = (report-refused _ _ _ _ _ _ (sym (c .before .before .before .before .before .cut .ensures .0) ∙ ap judgedTold (c .before .bad .given .1)), c .before .before .before .before .before .cut .ensures .1)
+returns-2 c = let e = c .before .before .before .before .before .before .before .before .before .before .before .before .before .before .before .before .spread .ensures in let w = c .before .before .before .before .before .before .before .before .before .before .written .ensures in (answered-report _ _ _ _ (e .0) (omega arith) _ (e .1) _ _ (w .0), c .before .before .clear .ensures ∙ answered-back _ _ _ _ (e .0) (omega arith) _ (e .1) _ (w .1))
 
 pub report-spec : {M : Type 1} → statement M
 report-spec =
     tie.close
     (tie.spec
     (λ c κs. search needs)
-    (λ c. search needs)
-    written-requires
-    (λ c. search needs)
-    written-requires-2
-    (λ c. search needs)
-    (λ c. search needs)
+    (λ c κs. search needs)
     (λ c. search needs)
     returns
+    written-requires
+    mul-clear
+    mul-clear-2
+    (λ c κs. search needs)
     (λ c. search needs)
     (λ c. search needs)
-    returns-2
-    (λ c. search needs)
-    returns-3)
+    returns-2)

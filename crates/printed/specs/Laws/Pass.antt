@@ -213,7 +213,7 @@ head-none allowed s f h p a =
 
 report-read : (s : State) (f h text : List ℕ) → Passes s f h → T (isRead (s .stage)) → reportCall s f h text ≡ store text (reportLines (s .n) (s .entries) (s .passes) (tablesIn s f h))
 unfolding reportCall
-report-read s f h text p a = ?
+report-read s f h text p a = rw (head-none isRead s f h p a) (simp tests)
 
 -- The close of a reading pass.
 module _ {k n p : ℕ} {t : Tables} {g : List Link} {s : State} {f h : List ℕ} (U : Under k true n p t g s f h) (text : List ℕ) where

@@ -51,7 +51,7 @@ pub decimal-more : (x : ℕ) → 10 ≤ x → decimal x ≡ decimal (x / 10) ++ 
 unfolding decimal digitsIn
 decimal-more x h = simp tests (ap (λ (d : List ℕ). d ++ ((x % 10 + 48) ∷ [])) (digits-more x (suc (x / 10)) (x / 10) (omega arith) (omega arith)))
 
-digits-few : (k x : ℕ) → x < 10 ^ suc k → length (decimal x) ≤ suc k
+pub digits-few : (k x : ℕ) → x < 10 ^ suc k → length (decimal x) ≤ suc k
 digits-few zero x h = rw (decimal-last x (omega arith)) (omega arith)
 digits-few (suc k) x h = elim (decLt x 10) [
   | yes l ↦ rw (decimal-last x l) (omega arith)

@@ -1,0 +1,5 @@
+pub mod Spread
+pub mod Order
+pub mod Passes
+pub mod Judged
+pub mod Laws
