@@ -1,3 +1,4 @@
 pub mod Report
 pub mod Threads
 pub mod Laws
+pub mod Theorems

@@ -7,7 +7,7 @@ ghost use Rattle.state.specs.Layout.{forestIn};
 ghost use Rattle.text.specs.Lines.{store};
 ghost use Rattle.text.specs.Put.{Put, Line, ample};
 ghost use Rattle.lines.specs.Report.{fragmentAt, linesTo, reportLines, reportCall};
-ghost use Rattle.lines.specs.Threads.{Told, Threadable, Threaded};
+ghost use Rattle.lines.specs.Threads.{Answered, Threadable, Threaded};
 use numbers::Written;
 use numbers::not_written;
 use reaches::CUT;
@@ -25,7 +25,7 @@ use threads::thread;
 mod threads;
 
 fn fragment_at(frag: &[u32], n: usize, v: usize, out: &mut [u8], at: usize) -> usize
-    requires { ⌜ Told n (now frag) × (v < n) × (at ≤ ample) ⌝ }
+    requires { ⌜ Answered n (now frag) × (v < n) × (at ≤ ample) ⌝ }
     ensures { λ r. ⌜ Line (fragmentAt n (forestIn n (now (frag .entry))) v) 200 at (now (out .entry)) r (now (out .exit)) ⌝ }
 {
     let p = parent_at(frag, n, v);
@@ -35,7 +35,7 @@ fn fragment_at(frag: &[u32], n: usize, v: usize, out: &mut [u8], at: usize) -> u
 }
 
 fn fragments(frag: &[u32], n: usize, out: &mut [u8], from: usize) -> usize
-    requires { ⌜ Told n (now frag) × (from ≤ 200) ⌝ }
+    requires { ⌜ Answered n (now frag) × (from ≤ 200) ⌝ }
     ensures { λ r. ⌜ Line (linesTo (fragmentAt n (forestIn n (now (frag .entry)))) n) (200 * n) from (now (out .entry)) r (now (out .exit)) ⌝ }
 {
     let mut at = from;

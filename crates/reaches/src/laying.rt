@@ -53,7 +53,7 @@ fn lows(frag: &mut [u32], n: usize)
     sink(frag, n, LOW * n);
 }
 
-// The smallest fragment of each tree, found at its root and told to all.
+// The smallest fragment of each tree, found at its root and handed down to all.
 fn pieces(frag: &mut [u32], n: usize)
     requires { ⌜ Ready n (now frag) ⌝ }
     ensures { λ r. ⌜ Pieces n (now (frag .entry)) (now (frag .exit)) ⌝ }

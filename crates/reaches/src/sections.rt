@@ -13,7 +13,7 @@ pub(crate) const ORDER: usize = 7;
 // The reach.
 pub(crate) const LOW: usize = 8;
 
-// How many fragments each level has; then where the next of each level is placed.
+// How many fragments each level has; then the turn of the next of each level.
 pub(crate) const START: usize = 9;
 
 // 1 where a child was met.

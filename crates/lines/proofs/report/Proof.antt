@@ -15,10 +15,10 @@ written-requires : tie.Need-written-requires
 written-requires c κs = let e = c .before .before .before .before .before .spread .ensures in answered-fit _ _ _ _ (e .0) (omega arith) _ (e .1)
 
 mul-clear : tie.Need-mul-clear
-mul-clear c = let e = c .before .before .before .before .before .before .before .before .before .before .before .before .spread .ensures in omega (arith, answered-fit _ _ _ _ (e .0) (omega arith) _ (e .1) .told .whole .few)
+mul-clear c = let e = c .before .before .before .before .before .before .before .before .before .before .before .before .spread .ensures in omega (arith, answered-fit _ _ _ _ (e .0) (omega arith) _ (e .1) .answers .whole .few)
 
 mul-clear-2 : tie.Need-mul-clear-2
-mul-clear-2 c = let e = c .before .before .before .before .before .before .before .before .before .before .before .before .before .spread .ensures in omega (arith, answered-fit _ _ _ _ (e .0) (omega arith) _ (e .1) .told .whole .few)
+mul-clear-2 c = let e = c .before .before .before .before .before .before .before .before .before .before .before .before .before .spread .ensures in omega (arith, answered-fit _ _ _ _ (e .0) (omega arith) _ (e .1) .answers .whole .few)
 
 returns-2 : tie.Need-returns-2
 returns-2 c = let e = c .before .before .before .before .before .before .before .before .before .before .before .before .before .before .before .before .spread .ensures in let w = c .before .before .before .before .before .before .before .before .before .before .written .ensures in (answered-report _ _ _ _ (e .0) (omega arith) _ (e .1) _ _ (w .0), c .before .before .clear .ensures ∙ answered-back _ _ _ _ (e .0) (omega arith) _ (e .1) _ (w .1))

@@ -1,7 +1,7 @@
 -- The steps from line to line.
 -- Assumes nothing.
 use Prim.Native.Nat.{ℕ, zero, suc, _+_, _<_, _≤_, min}
-use mathlib.Core.Bool.{Bool, true, false, _||_, _&&_, not}
+use mathlib.Core.Bool.{true, false, _||_, _&&_, not}
 use mathlib.Core.List.{List, [], _++_, append-nil}
 use mathlib.Core.Logic.{inl, inr}
 use mathlib.Core.Path.{_≡_, refl, sym, ap, _∙_}
@@ -10,11 +10,12 @@ use native.Mathlib.Decide.{ℕ-discrete, decLt}
 use native.Mathlib.Numerals.{add-one}
 use lib.Dec.{T, ltb, eqb}
 use lib.ListN.{length, length-append}
-use Rattle.base.specs.Pick.{pick, pick-true, pick-false}
+use Rattle.base.specs.Pick.{pick-true, pick-false}
 use Rattle.base.specs.Truth.{and-l, and-r, and-intro, or-l, or-r, or-cases, T-true, T-false}
 use Rattle.rules.specs.Tables.{Tables, parentOf}
 use Rattle.rules.specs.Reading.{piece, cut, sole, soleBelow}
-use Rattle.reaches.specs.Spread.{flag, cutAt}
+use Rattle.reaches.specs.Spread.{cutAt}
+use Rattle.reaches.specs.Laws.Judged.{flag-some}
 use Rattle.text.specs.Lines.{fragmentLine, soleLine}
 use Rattle.text.specs.Put.{Put, Line, ample, within}
 use Rattle.text.specs.Laws.Put.{put-none, put-then, put-is, line-then, line-less, within-back}
@@ -47,10 +48,6 @@ pub puts-end : (line : ℕ → List ℕ) {v n at r : ℕ} {out after : List ℕ}
 puts-end line e p = rw e at p
 
 -- Numbers without a line.
-lines-zero : (line : ℕ → List ℕ) → linesTo line 0 ≡ []
-unfolding linesTo
-lines-zero line = refl
-
 pub lines-suc : (line : ℕ → List ℕ) (k : ℕ) → linesTo line (suc k) ≡ linesTo line k ++ line k
 unfolding linesTo
 lines-suc line k = refl
@@ -75,15 +72,10 @@ pub puts-room : (line : ℕ → List ℕ) {v n from at : ℕ} {out after : List 
 puts-room line {v} {n} h p l = omega (arith, l, p .end, lines-up line (suc v) n h, ap length (lines-suc line v) ∙ length-append (linesTo line v) (line v))
 
 -- The line of a fragment; x is its word in the section of cuts.
-flag-cut : (b : Bool) → not (eqb (flag b) 0) ≡ b
-unfolding flag pick
-flag-cut true = refl
-flag-cut false = refl
-
 pub fragment-put : (n : ℕ) (t : Tables) (v p q x : ℕ) {at r : ℕ} {out after : List ℕ} → at ≤ ample → p ≡ parentOf t v → q ≡ piece n t v → x ≡ cutAt n t v
     → Line (within at (fragmentLine v p q (not (eqb x 0)))) 200 at out r after → Line (fragmentAt n t v) 200 at out r after
 unfolding fragmentAt cutAt
-fragment-put n t v p q x h e f g l = (rw (e, f, g, flag-cut (cut n t v)) at (within-back h l))
+fragment-put n t v p q x h e f g l = (rw (e, f, g, flag-some (cut n t v)) at (within-back h l))
 
 -- The line of a link, or none.
 module _ (n : ℕ) (t : Tables) (a b : ℕ) where

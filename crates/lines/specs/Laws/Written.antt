@@ -34,7 +34,7 @@ lines-alone s f h = refl
 
 -- The text has room from where the sole links begin.
 pub soles-room : {n from : ℕ} {f : List ℕ} → Threaded n f → from ≤ 200 + 200 * n → from + length (linesTo (solesFrom n (forestIn n f)) n) ≤ ample
-soles-room {n} {from} {f} t h = omega (arith, h, t .told .whole .few, soles-few n (forestIn n f) (omega (arith, t .told .whole .few)))
+soles-room {n} {from} {f} t h = omega (arith, h, t .answers .whole .few, soles-few n (forestIn n f) (omega (arith, t .answers .whole .few)))
 
 -- Threads do not change the text.
 pub lines-kept : (n entries passes : ℕ) {f g : List ℕ} → Threads n 0 f g → reportLines n entries passes (forestIn n g) ≡ reportLines n entries passes (forestIn n f)
@@ -71,7 +71,7 @@ module _ (s : State) (f h : List ℕ) (r : ℕ) (e : r ≡ headRefusal isRead s 
       let o = read-orderable s f h (sym e ∙ z) in
       let at : (i : ℕ) → getD g i 0 ≡ getD (laid n t f) i 0 = λ i. ap (λ (x : List ℕ). getD x i 0) was in
       record {
-        told = record {
+        answers = record {
           whole = only-whole n (omega arith) answered (o .whole);
           pieces = λ v k. at (4 * n + v) ∙ laid-piece n t f l v k ∙ ap (λ x. piece n x v) (sym answered-forest);
           cuts = λ v k. at (5 * n + v) ∙ laid-cut n t f l v k ∙ ap (λ x. cutAt n x v) (sym answered-forest);

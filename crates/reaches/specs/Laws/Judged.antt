@@ -166,7 +166,7 @@ pub soles-all : {n k : ℕ} {f g : List ℕ} → k ≡ n → Soles n k f g → S
 soles-all {n} {k} {f} {g} e s = rw e at s
 
 -- A flag, read.
-flag-some : (b : Bool) → not (eqb (flag b) 0) ≡ b
+pub flag-some : (b : Bool) → not (eqb (flag b) 0) ≡ b
 unfolding flag pick
 flag-some true = refl
 flag-some false = refl

@@ -1,4 +1,4 @@
--- Why a pass from the last to the first finds the least of all below, and one from the first to the last tells the root's value.
+-- Why a pass from the last to the first finds the least of all below, and one from the first to the last hands the root's value down.
 -- Assumes nothing.
 use Prim.Native.Nat.{ℕ, zero, suc, _+_, _-_, _*_, _≤_, _<_, min}
 use mathlib.Core.Path.{_≡_, refl, sym, ap, _∙_, subst}
@@ -66,24 +66,24 @@ ready-by n h k e r =
     record {
       whole = only-whole n h k (r .whole);
       ordered = record {
-        place = o .place;
+        turn = o .turn;
         some = λ j l. rw (e j l) (o .some j l);
         inside = o .inside;
-        at = λ v l. e (o .place v) (o .inside v l) ∙ o .at v l;
+        at = λ v l. e (o .turn v) (o .inside v l) ∙ o .at v l;
         rises = rw (only-forest n h k) (o .rises);
       };
     }
 
--- From the last to the first: the fragments from place i on have told their parents.
+-- From the last to the first: the fragments from turn i on have handed their values up.
 pub record Sinking (n base i : ℕ) (f g : List ℕ) : Type 0 where
   pub only : Only base (base + n) f g
   pub small : (v : ℕ) → v < n → getD g (base + v) 0 ≤ getD f (base + v) 0
   pub great : (v : ℕ) → v < n → leastBelow n (forestIn n f) (λ u. getD f (base + u) 0) v ≤ getD g (base + v) 0
-  pub place : ℕ → ℕ
-  pub inside : (v : ℕ) → v < n → place v < n
-  pub at : (v : ℕ) → v < n → getD f (7 * n + place v) 0 ≡ v
-  pub rises : (v : ℕ) → v < n → par (forestIn n f) v ≢ v → place (par (forestIn n f) v) < place v
-  pub told : (v : ℕ) → v < n → i ≤ place v → getD g (base + par (forestIn n f) v) 0 ≤ getD g (base + v) 0
+  pub turn : ℕ → ℕ
+  pub inside : (v : ℕ) → v < n → turn v < n
+  pub at : (v : ℕ) → v < n → getD f (7 * n + turn v) 0 ≡ v
+  pub rises : (v : ℕ) → v < n → par (forestIn n f) v ≢ v → turn (par (forestIn n f) v) < turn v
+  pub done : (v : ℕ) → v < n → i ≤ turn v → getD g (base + par (forestIn n f) v) 0 ≤ getD g (base + v) 0
 
 pub sinking-none : (n base : ℕ) (f : List ℕ) → Sinkable n base f → Sinking n base n f f
 sinking-none n base f s =
@@ -92,11 +92,11 @@ sinking-none n base f s =
       only = only-refl base (base + n) f;
       small = λ v h. omega arith;
       great = λ v h. below-own (s .ready .whole) (λ u. getD f (base + u) 0) v;
-      place = o .place;
+      turn = o .turn;
       inside = o .inside;
       at = o .at;
       rises = o .rises;
-      told = λ v h l. absurd (omega (arith, o .inside v h));
+      done = λ v h l. absurd (omega (arith, o .inside v h));
     }
 
 -- The table stays fit for it.
@@ -119,7 +119,7 @@ module _ {n base i : ℕ} {f g : List ℕ} (s : Sinkable n base f) (k : Sinking 
   pub sinking-fit : Sinkable n base g
   sinking-fit = record { ready = ready-by n (s .scratch) (k .only) sinking-order (s .ready); scratch = s .scratch; inside = s .inside; apart = s .apart }
 
--- One fragment more, at place j.
+-- One fragment more, at turn j.
 module _ {n base j : ℕ} {f g : List ℕ} (s : Sinkable n base f) (k : Sinking n base (j + 1) f g) (h : j < n) where
   -- v is there, p its parent, x what the parent's value becomes.
   sinking-by : (v p x : ℕ) → v ≡ getD f (7 * n + j) 0 → v < n → p ≡ par (forestIn n f) v → p < n → x ≡ min (getD g (base + p) 0) (getD g (base + v) 0)
@@ -142,11 +142,11 @@ module _ {n base j : ℕ} {f g : List ℕ} (s : Sinkable n base f) (k : Sinking 
           | yes z ↦ rw z (omega (arith, same, ex, k .great p hp, k .great v hv, below-parent w value v hv, ap (leastBelow n t value) ep))
           | no d ↦ omega (arith, other u d, k .great u l)
         ];
-        place = k .place;
+        turn = k .turn;
         inside = k .inside;
         at = k .at;
         rises = k .rises;
-        told = λ u l q. elim (ℕ-discrete u v) [
+        done = λ u l q. elim (ℕ-discrete u v) [
           | yes z ↦
               let a : getD (set g (base + p) x) (base + par t u) 0 ≡ x = ap (λ (y : ℕ). getD (set g (base + p) x) (base + y) 0) (ap (par t) z ∙ sym ep) ∙ same in
               elim (ℕ-discrete u p) [
@@ -154,8 +154,8 @@ module _ {n base j : ℕ} {f g : List ℕ} (s : Sinkable n base f) (k : Sinking 
                 | no d ↦ omega (arith, a, ex, other u d, ap (λ (m : ℕ). getD g (base + m) 0) z)
               ]
           | no d ↦
-              let b : j ≢ k .place u = λ y. d (sym (k .at u l) ∙ ap (λ (m : ℕ). getD f (7 * n + m) 0) (sym y) ∙ sym ev) in
-              let c = k .told u l (omega arith) in
+              let b : j ≢ k .turn u = λ y. d (sym (k .at u l) ∙ ap (λ (m : ℕ). getD f (7 * n + m) 0) (sym y) ∙ sym ev) in
+              let c = k .done u l (omega arith) in
               elim (ℕ-discrete u p) [
                 | no r ↦ omega (arith, less (par t u), other u r, c)
                 | yes r ↦ elim (ℕ-discrete (par t u) u) [
@@ -163,9 +163,9 @@ module _ {n base j : ℕ} {f g : List ℕ} (s : Sinkable n base f) (k : Sinking 
                   | no y ↦ elim (ℕ-discrete p v) [
                     | yes z ↦ absurd (d (r ∙ z))
                     | no z ↦
-                        -- u is v's parent and stands behind place j, so v does too and has told it
-                        let e : k .place p < k .place v = rw (← ep) at (k .rises v hv (λ a. z (ep ∙ a))) in
-                        let m : getD g (base + p) 0 ≤ getD g (base + v) 0 = rw (← ep) at (k .told v hv (omega (arith, ap (k .place) r))) in
+                        -- u is v's parent and has a turn behind j, so v does too and has handed its value up
+                        let e : k .turn p < k .turn v = rw (← ep) at (k .rises v hv (λ a. z (ep ∙ a))) in
+                        let m : getD g (base + p) 0 ≤ getD g (base + v) 0 = rw (← ep) at (k .done v hv (omega (arith, ap (k .turn) r))) in
                         omega (arith, less (par t u), c, same, ex, ap (λ (m : ℕ). getD g (base + m) 0) r, ap (λ (m : ℕ). getD (set g (base + p) x) (base + m) 0) r)
                   ]
                 ]
@@ -182,7 +182,7 @@ module _ {n base j : ℕ} {f g : List ℕ} (s : Sinkable n base f) (k : Sinking 
       let p = par t v in
       rw (eg, et) (sinking-by v p (min (getD g (base + p) 0) (getD g (base + v) 0)) (e ∙ sinking-order s k j h) hv refl (par-in (levels (s .ready .whole)) v hv) refl)
 
--- The same by the place before.
+-- The same by the turn before.
 pub sinking-again : {n base i : ℕ} {f g : List ℕ} → Sinkable n base f → Sinking n base i f g → (j : ℕ) → i ≡ j + 1 → j < n → (v : ℕ) → v ≡ getD g (7 * n + j) 0 → (g′ : List ℕ) → g′ ≡ sunkAt n base v g
     → Sinking n base j f g′
 sinking-again {n} {base} {i} {f} {g} s k j e h = sinking-turn s (rw e at k) h
@@ -192,7 +192,7 @@ sinking-all {n} {base} {i} {f} {g} s z k =
     let value : ℕ → ℕ = λ u. getD f (base + u) 0 in
     record {
       only = k .only;
-      each = λ v h. least-found (s .ready .whole) value (λ u. getD g (base + u) 0) (k .small) (λ u l. k .told u l (omega arith)) v h (k .great v h);
+      each = λ v h. least-found (s .ready .whole) value (λ u. getD g (base + u) 0) (k .small) (λ u l. k .done u l (omega arith)) v h (k .great v h);
     }
 
 -- Where a parent's value is read or written.
@@ -203,20 +203,20 @@ pub sunk-is : (n base v : ℕ) (f : List ℕ) (p x : ℕ) → p ≡ par (forestI
 unfolding sunkAt
 sunk-is n base v f p x e q = rw (q, e)
 
--- From the first to the last: the fragments before place i have their root's value.
+-- From the first to the last: the fragments before turn i have their root's value.
 pub record Falling (n i : ℕ) (f g : List ℕ) : Type 0 where
   pub only : Only (4 * n) (5 * n) f g
-  pub place : ℕ → ℕ
-  pub inside : (v : ℕ) → v < n → place v < n
-  pub at : (v : ℕ) → v < n → getD f (7 * n + place v) 0 ≡ v
-  pub rises : (v : ℕ) → v < n → par (forestIn n f) v ≢ v → place (par (forestIn n f) v) < place v
+  pub turn : ℕ → ℕ
+  pub inside : (v : ℕ) → v < n → turn v < n
+  pub at : (v : ℕ) → v < n → getD f (7 * n + turn v) 0 ≡ v
+  pub rises : (v : ℕ) → v < n → par (forestIn n f) v ≢ v → turn (par (forestIn n f) v) < turn v
   pub roots : (v : ℕ) → v < n → par (forestIn n f) v ≡ v → getD g (4 * n + v) 0 ≡ getD f (4 * n + v) 0
-  pub told : (v : ℕ) → v < n → place v < i → getD g (4 * n + v) 0 ≡ getD f (4 * n + rootOf (forestIn n f) v) 0
+  pub done : (v : ℕ) → v < n → turn v < i → getD g (4 * n + v) 0 ≡ getD f (4 * n + rootOf (forestIn n f) v) 0
 
 pub falling-none : (n : ℕ) (f : List ℕ) → Ready n f → Falling n 0 f f
 falling-none n f r =
     let o = r .ordered in
-    record { only = only-refl (4 * n) (5 * n) f; place = o .place; inside = o .inside; at = o .at; rises = o .rises; roots = λ v h e. refl; told = λ v h l. absurd (omega arith) }
+    record { only = only-refl (4 * n) (5 * n) f; turn = o .turn; inside = o .inside; at = o .at; rises = o .rises; roots = λ v h e. refl; done = λ v h l. absurd (omega arith) }
 
 root-own : (n : ℕ) (f : List ℕ) (v : ℕ) → par (forestIn n f) v ≡ v → rootOf (forestIn n f) v ≡ v
 unfolding rootOf
@@ -232,7 +232,7 @@ module _ {n i : ℕ} {f g : List ℕ} (r : Ready n f) (k : Falling n i f g) wher
   pub falling-fit : Ready n g
   falling-fit = ready-by n (omega arith) (k .only) falling-order r
 
-  -- v is at place i, p its parent, x the parent's value.
+  -- v is at turn i, p its parent, x the parent's value.
   falling-by : i < n → (v p x : ℕ) → v ≡ getD f (7 * n + i) 0 → v < n → p ≡ par (forestIn n f) v → p < n → x ≡ getD g (4 * n + p) 0 → Falling n (i + 1) f (set g (4 * n + v) x)
   falling-by h v p x ev hv ep hp ex =
       let t = forestIn n f in
@@ -241,7 +241,7 @@ module _ {n i : ℕ} {f g : List ℕ} (r : Ready n f) (k : Falling n i f g) wher
       let other : (u : ℕ) → u ≢ v → getD (set g (4 * n + v) x) (4 * n + u) 0 ≡ getD g (4 * n + u) 0 = λ u d. getD-set-other g (4 * n + v) (4 * n + u) x 0 (omega arith) in
       record {
         only = only-more (k .only) (4 * n + v) x (omega arith) (omega arith);
-        place = k .place;
+        turn = k .turn;
         inside = k .inside;
         at = k .at;
         rises = k .rises;
@@ -251,17 +251,17 @@ module _ {n i : ℕ} {f g : List ℕ} (r : Ready n f) (k : Falling n i f g) wher
               rw z (same ∙ ex ∙ ap (λ (y : ℕ). getD g (4 * n + y) 0) q ∙ k .roots v hv (sym ep ∙ q))
           | no d ↦ other u d ∙ k .roots u l e
         ];
-        told = λ u l q. elim (ℕ-discrete u v) [
+        done = λ u l q. elim (ℕ-discrete u v) [
           | yes z ↦ rw z (same ∙ ex ∙ (elim (ℕ-discrete (par t v) v) [
             | yes y ↦ ap (λ (m : ℕ). getD g (4 * n + m) 0) (ep ∙ y) ∙ k .roots v hv y ∙ ap (λ (m : ℕ). getD f (4 * n + m) 0) (sym (root-own n f v y))
             | no y ↦
-                let m : k .place p < k .place v = rw (← ep) at (k .rises v hv y) in
-                let b : k .place v < i + 1 = rw z at q in
-                k .told p hp (omega arith) ∙ ap (λ (e : ℕ). getD f (4 * n + e) 0) (ap (rootOf t) ep ∙ root-parent (r .whole) v hv y)
+                let m : k .turn p < k .turn v = rw (← ep) at (k .rises v hv y) in
+                let b : k .turn v < i + 1 = rw z at q in
+                k .done p hp (omega arith) ∙ ap (λ (e : ℕ). getD f (4 * n + e) 0) (ap (rootOf t) ep ∙ root-parent (r .whole) v hv y)
           ]))
           | no d ↦
-              let b : i ≢ k .place u = λ y. d (sym (k .at u l) ∙ ap (λ (m : ℕ). getD f (7 * n + m) 0) (sym y) ∙ sym ev) in
-              other u d ∙ k .told u l (omega arith)
+              let b : i ≢ k .turn u = λ y. d (sym (k .at u l) ∙ ap (λ (m : ℕ). getD f (7 * n + m) 0) (sym y) ∙ sym ev) in
+              other u d ∙ k .done u l (omega arith)
         ];
       }
 
@@ -274,7 +274,7 @@ module _ {n i : ℕ} {f g : List ℕ} (r : Ready n f) (k : Falling n i f g) wher
       rw (eg, et) (falling-by h v (par t v) _ (e ∙ falling-order i h) hv refl (par-in (levels (r .whole)) v hv) refl)
 
 pub falling-all : {n i : ℕ} {f g : List ℕ} → i ≡ n → Falling n i f g → Falls n f g
-falling-all e k = record { only = k .only; each = λ v h. k .told v h (omega (arith, k .inside v h)) }
+falling-all e k = record { only = k .only; each = λ v h. k .done v h (omega (arith, k .inside v h)) }
 
 pub fallen-is : (n v : ℕ) (f : List ℕ) (p : ℕ) → p ≡ par (forestIn n f) v → set f (4 * n + v) (getD f (4 * n + p) 0) ≡ fallenAt n v f
 unfolding fallenAt
