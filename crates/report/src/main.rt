@@ -1,4 +1,7 @@
 // Prints the report on the file links.sev. What is printed is worked out by `telling`, which is told what each read answered.
+ghost use mathlib.Core.Path.{_≡_};
+ghost use lib.ListN.{length};
+ghost use Rattle.report.specs.Reading.{Silent, heardOf, Hears};
 use telling::Heard;
 use telling::Next;
 
@@ -22,19 +25,25 @@ fn open_list() -> i32 {
 }
 
 // A file that cannot be opened is missing, or there is another reason.
-fn unopened(error: i32) -> Heard {
+fn unopened(error: i32) -> Heard
+    ensures { λ r. ⌜ Silent r ⌝ }
+{
     if error == libc::ENOENT {
         return Heard::NoFile;
     }
     Heard::Failed
 }
 
-// What a read answered.
-fn heard(got: isize, buffer: &[u8]) -> Heard {
-    if got < 0 {
+// What is heard of a read that failed, or put so many bytes into the buffer: none at the end of the file, and never more than there is room for.
+fn heard(failed: bool, room: usize, count: usize) -> Heard
+    ensures { λ r. ⌜ r ≡ heardOf failed room count ⌝ }
+{
+    if failed {
         return Heard::Failed;
     }
-    let count = io::count(got, buffer);
+    if room < count {
+        return Heard::Failed;
+    }
     if count == 0 {
         return Heard::End;
     }
@@ -42,15 +51,25 @@ fn heard(got: isize, buffer: &[u8]) -> Heard {
 }
 
 // Reads behind the bytes at the buffer's front, which stay as they are.
-fn hear(fd: i32, buffer: &mut [u8], have: usize) -> Heard {
+fn hear(fd: i32, buffer: &mut [u8], have: usize) -> Heard
+    ensures { λ r. ⌜ Hears have (now (buffer .entry)) r (now (buffer .exit)) ⌝ }
+{
     if fd < 0 {
         return unopened(os::errno());
     }
     if have >= buffer.len() {
         return Heard::Failed;
     }
+    let room = buffer.len() - have;
     let got = libc::read(fd, &mut buffer[have..]);
-    heard(got, buffer)
+    let count = io::count(got, buffer);
+    heard(got < 0, room, count)
+}
+
+// Where telling goes on: the file anew, or as it is.
+fn reopened(fd: i32) -> i32 {
+    libc::close(fd);
+    open_list()
 }
 
 // Tells the file until there is something to print.
@@ -58,34 +77,35 @@ fn tell_list(frag: &mut [u32], held: &mut [u32], buffer: &mut [u8], text: &mut [
     let mut fd = open_list();
     let mut t = telling::begin(ROOM);
     let mut turns: u64 = TURNS;
+    let mut end = Next::Failed;
     while turns > 0 {
         let got = hear(fd, buffer, t.have);
-        let next = telling::tell(t, frag, held, buffer, text, got);
-        match next {
+        end = telling::tell(t, frag, held, buffer, text, got);
+        match end {
             Next::More(more) => {
                 t = more;
+                turns -= 1;
             }
             Next::Again(again) => {
-                libc::close(fd);
-                fd = open_list();
+                fd = reopened(fd);
                 t = again;
+                turns -= 1;
             }
             Next::Report(_, _) => {
-                return next;
+                turns = 0;
             }
             Next::Refused(_, _) => {
-                return next;
+                turns = 0;
             }
             Next::NoFile(_) => {
-                return next;
+                turns = 0;
             }
             Next::Failed => {
-                return next;
+                turns = 0;
             }
         }
-        turns -= 1;
     }
-    Next::Failed
+    end
 }
 
 fn write_text(text: &[u8], size: usize) {
