@@ -1,2 +1,4 @@
 pub mod Lists
+pub mod Telling
+pub mod Tell
 pub mod Laws

@@ -1,0 +1,14 @@
+-- `c_telling::words::put_telling` meets its contract.
+-- Assumes nothing.
+use Rattle.c_telling.specs.Laws.Tell.{telling-stored}
+use borrow.Author.Needs.{needs}
+use Rattle.c_telling.proofs.words.put_telling.Statement.{statement}
+use Rattle.c_telling.proofs.words.put_telling.Tie as tie
+
+-- src/words.rt:95:1
+returns : tie.Need-returns
+returns c = let a = c .before .before .before .before .before .before .before .before .before .before .args in telling-stored (a .t) (a .words .now) _ _ _ (c .before .before .before .before .step-word .ensures) (c .before .before .before .before .before .before .before .pack .ensures) (c .before .before .put-rest .ensures)
+
+pub put-telling-spec : {M : Type 1} → statement M
+put-telling-spec =
+    tie.close (tie.spec (λ c κs. search needs) (λ c κs. search needs) (λ c κs. search needs) (λ c. search needs) returns)
