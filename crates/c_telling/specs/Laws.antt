@@ -1,4 +1,3 @@
 -- Laws about the definitions, and the lemmas that the proofs of the code rest on.
 -- Assumes nothing.
-pub mod Lists
-pub mod Tell
+pub mod Steps

@@ -1,4 +1,3 @@
-pub mod Lists
 pub mod Telling
-pub mod Tell
+pub mod Answers
 pub mod Laws

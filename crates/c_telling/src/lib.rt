@@ -1,4 +1,8 @@
-// Telling a list file, writing a list and reading a link as C functions: a telling is an array of words.
-mod links;
-mod tell_file;
+// A telling in words, and what telling answers, for callers that know arrays and numbers only.
+pub use words::TELLING;
+pub use words::end_tell;
+pub use words::heard_in;
+pub use words::put_telling;
+pub use words::telling_in;
+
 mod words;

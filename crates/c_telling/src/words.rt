@@ -2,7 +2,7 @@
 ghost use mathlib.Core.Path.{_≡_};
 ghost use Rattle.telling.specs.Tell.{nextDoes};
 ghost use Rattle.c_telling.specs.Telling.{stepIn, tellingIn, stepWord, restWords, tellingWords, heardIn};
-ghost use Rattle.c_telling.specs.Tell.{ended, doesEnd};
+ghost use Rattle.c_telling.specs.Answers.{ended, doesEnd};
 use c_words::high;
 use c_words::joined;
 use c_words::low;
@@ -16,7 +16,7 @@ use telling::Step;
 use telling::Telling;
 
 // Words of a telling.
-pub(crate) const TELLING: usize = 13;
+pub const TELLING: usize = 13;
 
 const FAILED: usize = 18446744073709551615;
 
@@ -38,7 +38,7 @@ fn step_in(word: u32) -> Step
 }
 
 // The telling in an array of words; a bad stage word is read as Built, in which no link is taken and no pass closed.
-pub(crate) fn telling_in(words: &[u32]) -> Telling
+pub fn telling_in(words: &[u32]) -> Telling
     ensures { λ r. ⌜ r ≡ tellingIn (now (words .entry)) ⌝ }
 {
     Telling {
@@ -50,7 +50,7 @@ pub(crate) fn telling_in(words: &[u32]) -> Telling
 }
 
 // What was heard, from the answer of a read.
-pub(crate) fn heard_in(heard: usize) -> Heard
+pub fn heard_in(heard: usize) -> Heard
     ensures { λ r. ⌜ r ≡ heardIn heard ⌝ }
 {
     if heard == 0 {
@@ -92,7 +92,7 @@ fn put_rest(step: u32, place: usize, count: usize, number: u32, words: &mut [u32
 }
 
 // Writes a telling.
-pub(crate) fn put_telling(t: Telling, words: &mut [u32])
+pub fn put_telling(t: Telling, words: &mut [u32])
     ensures { λ _. ⌜ now (words .exit) ≡ tellingWords t (now (words .entry)) ⌝ }
 {
     let step = t.step;
@@ -101,7 +101,7 @@ pub(crate) fn put_telling(t: Telling, words: &mut [u32])
 }
 
 // Writes what a telling answered, and returns its number.
-pub(crate) fn end_tell(next: Next, words: &mut [u32]) -> u32
+pub fn end_tell(next: Next, words: &mut [u32]) -> u32
     ensures { λ r. ⌜ ended r (now (words .exit)) ≡ doesEnd (nextDoes next) (now (words .entry)) ⌝ }
 {
     match next {

@@ -1,6 +1,6 @@
 -- `c_telling::words::end_tell` meets its contract.
 -- Assumes nothing.
-use Rattle.c_telling.specs.Laws.Tell.{end-more, end-again, end-report, end-refused, end-absent, end-unread}
+use Rattle.c_telling.specs.Laws.Steps.{end-more, end-again, end-report, end-refused, end-absent, end-unread}
 use borrow.Author.Needs.{needs}
 use Rattle.c_telling.proofs.words.end_tell.Statement.{statement}
 use Rattle.c_telling.proofs.words.end_tell.Tie as tie

@@ -1,6 +1,6 @@
 -- `c_telling::words::heard_in` meets its contract.
 -- Assumes nothing.
-use Rattle.c_telling.specs.Laws.Tell.{heard-end, heard-failed, heard-none, heard-bytes}
+use Rattle.c_telling.specs.Laws.Steps.{heard-end, heard-failed, heard-none, heard-bytes}
 use native.Mathlib.Omega.{arith}
 use Rattle.c_telling.proofs.words.heard_in.Statement.{statement}
 use Rattle.c_telling.proofs.words.heard_in.Tie as tie

@@ -2,7 +2,7 @@
 -- Assumes nothing.
 use native.Mathlib.Omega.{arith}
 use lib.ListN.{length-set}
-use Rattle.c_telling.specs.Laws.Tell.{rest-short, rest-stored}
+use Rattle.c_telling.specs.Laws.Steps.{rest-short, rest-stored}
 use borrow.Author.Needs.{needs}
 use Rattle.c_telling.proofs.words.put_rest.Statement.{statement}
 use Rattle.c_telling.proofs.words.put_rest.Tie as tie

@@ -1,6 +1,6 @@
 -- `c_telling::words::put_telling` meets its contract.
 -- Assumes nothing.
-use Rattle.c_telling.specs.Laws.Tell.{telling-stored}
+use Rattle.c_telling.specs.Laws.Steps.{telling-stored}
 use borrow.Author.Needs.{needs}
 use Rattle.c_telling.proofs.words.put_telling.Statement.{statement}
 use Rattle.c_telling.proofs.words.put_telling.Tie as tie

@@ -1,6 +1,6 @@
 -- `c_telling::words::step_in` meets its contract.
 -- Assumes nothing.
-use Rattle.c_telling.specs.Laws.Tell.{step-0, step-1, step-2, step-over}
+use Rattle.c_telling.specs.Laws.Steps.{step-0, step-1, step-2, step-over}
 use native.Mathlib.Omega.{arith}
 use Rattle.c_telling.proofs.words.step_in.Statement.{statement}
 use Rattle.c_telling.proofs.words.step_in.Tie as tie

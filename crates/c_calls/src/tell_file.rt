@@ -1,11 +1,12 @@
 // Telling a list file.
 ghost use mathlib.Core.Path.{_≡_};
-ghost use Rattle.c_telling.specs.Tell.{ended, told, cBegin, cTell};
-use crate::words::TELLING;
-use crate::words::end_tell;
-use crate::words::heard_in;
-use crate::words::put_telling;
-use crate::words::telling_in;
+ghost use Rattle.c_telling.specs.Answers.{ended};
+ghost use Rattle.c_calls.specs.Tell.{told, cBegin, cTell};
+use c_telling::TELLING;
+use c_telling::end_tell;
+use c_telling::heard_in;
+use c_telling::put_telling;
+use c_telling::telling_in;
 use c_words::wide;
 use telling::begin;
 use telling::tell;

@@ -7,7 +7,7 @@ use Rattle.numbers.specs.Answers.{wrote}
 use Rattle.lists.specs.Answers.{toldLink}
 use Rattle.lists.specs.List.{scanLink}
 use Rattle.writing.specs.Write.{writeList}
-use Rattle.c_telling.specs.Lists.{writeReply, writeTold, wroteTold, cWriteList, linkReply, linkTold, cLinkAt}
+use Rattle.c_calls.specs.Lists.{writeReply, writeTold, wroteTold, cWriteList, linkReply, linkTold, cLinkAt}
 use Rattle.numbers.specs.declared.Refusal.{Refusal}
 use Rattle.numbers.specs.declared.Written.{Written}
 use Rattle.numbers.specs.declared.Written.the-variants.{End, Refused as Unwritten}

@@ -1,10 +1,10 @@
--- `c_telling::tell_file::welmocant_tell` meets its contract.
+-- `c_calls::tell_file::welmocant_tell` meets its contract.
 -- Assumes nothing.
 use native.Mathlib.Omega.{arith}
-use Rattle.c_telling.specs.Laws.Tell.{tell-short, tell-long}
+use Rattle.c_calls.specs.Laws.Tell.{tell-short, tell-long}
 use borrow.Author.Needs.{needs}
-use Rattle.c_telling.proofs.tell_file.welmocant_tell.Statement.{statement}
-use Rattle.c_telling.proofs.tell_file.welmocant_tell.Tie as tie
+use Rattle.c_calls.proofs.tell_file.welmocant_tell.Statement.{statement}
+use Rattle.c_calls.proofs.tell_file.welmocant_tell.Tie as tie
 
 -- src/tell_file.rt:38:9
 returns : tie.Need-returns

@@ -1,6 +1,6 @@
 // The list writer, and one link of a block.
 ghost use mathlib.Core.Path.{_≡_};
-ghost use Rattle.c_telling.specs.Lists.{writeReply, linkReply, cWriteList, cLinkAt};
+ghost use Rattle.c_calls.specs.Lists.{writeReply, linkReply, cWriteList, cLinkAt};
 use lists::Link;
 use lists::link_at;
 use numbers::Written;

@@ -1,9 +1,9 @@
--- `c_telling::links::welmocant_write_list` meets its contract.
+-- `c_calls::links::welmocant_write_list` meets its contract.
 -- Assumes nothing.
-use Rattle.c_telling.specs.Laws.Lists.{write-end, write-refused}
+use Rattle.c_calls.specs.Laws.Lists.{write-end, write-refused}
 use borrow.Author.Needs.{needs}
-use Rattle.c_telling.proofs.links.welmocant_write_list.Statement.{statement}
-use Rattle.c_telling.proofs.links.welmocant_write_list.Tie as tie
+use Rattle.c_calls.proofs.links.welmocant_write_list.Statement.{statement}
+use Rattle.c_calls.proofs.links.welmocant_write_list.Tie as tie
 
 -- src/links.rt:10:1
 returns : tie.Need-returns

@@ -1,10 +1,10 @@
--- `c_telling::tell_file::welmocant_begin` meets its contract.
+-- `c_calls::tell_file::welmocant_begin` meets its contract.
 -- Assumes nothing.
 use native.Mathlib.Omega.{arith}
-use Rattle.c_telling.specs.Laws.Tell.{begin-short, begin-long}
+use Rattle.c_calls.specs.Laws.Tell.{begin-short, begin-long}
 use borrow.Author.Needs.{needs}
-use Rattle.c_telling.proofs.tell_file.welmocant_begin.Statement.{statement}
-use Rattle.c_telling.proofs.tell_file.welmocant_begin.Tie as tie
+use Rattle.c_calls.proofs.tell_file.welmocant_begin.Statement.{statement}
+use Rattle.c_calls.proofs.tell_file.welmocant_begin.Tie as tie
 
 -- src/tell_file.rt:19:9
 returns : tie.Need-returns

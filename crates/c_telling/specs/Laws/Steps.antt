@@ -11,7 +11,7 @@ use Rattle.state.specs.declared.Stage.the-variants.{Built}
 use Rattle.numbers.specs.declared.Refusal.{Refusal}
 use Rattle.c_words.specs.State.{stateIn, stateWords}
 use Rattle.c_words.specs.Pair.{lowWord, highWord, joined}
-use Rattle.telling.specs.Tell.{Does, Goes, nextDoes, goes, beginning, tellCall}
+use Rattle.telling.specs.Tell.{nextDoes}
 use Rattle.telling.specs.declared.Step.{Step}
 use Rattle.telling.specs.declared.Step.the-variants.{First, Head, Links, Over}
 use Rattle.telling.specs.declared.Telling.{Telling}
@@ -20,7 +20,7 @@ use Rattle.telling.specs.declared.Heard.the-variants.{Bytes, End, Failed, NoFil
 use Rattle.telling.specs.declared.Next.{Next}
 use Rattle.telling.specs.declared.Next.the-variants.{More, Again, Report, Refused, NoFile as Absent, Failed as Unread}
 use Rattle.c_telling.specs.Telling.{stepIn, tellingIn, stepWord, restList, restWords, tellingWords, heardIn}
-use Rattle.c_telling.specs.Tell.{Ended, ended, overWords, doesEnd, told, goesTold, cBegin, cTell}
+use Rattle.c_telling.specs.Answers.{ended, overWords, doesEnd}
 
 -- The step of a word.
 module _ (x : ℕ) where
@@ -102,23 +102,3 @@ module _ (w w′ : List ℕ) (a : Next) where
 
   pub end-unread : a ≡ Unread → w′ ≡ overWords 0 0 0 w → ended 5 w′ ≡ doesEnd (nextDoes a) w
   end-unread p q = rw (p, q) refl
-
--- The C functions.
-module _ (k : ℕ) (w : List ℕ) where
-  pub begin-short : length w < 13 → ended 3 w ≡ cBegin k w
-  unfolding cBegin
-  begin-short p = simp tests
-
-  pub begin-long : 13 ≤ length w → (k₀ : ℕ) (t : Telling) (w′ : List ℕ) → k₀ ≡ k → t ≡ beginning k₀ → w′ ≡ tellingWords t w → ended 0 w′ ≡ cBegin k w
-  unfolding cBegin
-  begin-long l k₀ t w′ ek et ew = rw (ew, et, ek) (simp tests)
-
-module _ (w f h b text : List ℕ) (heard : ℕ) where
-  pub tell-short : length w < 13 → told (ended 3 w) f h b text ≡ cTell w f h b text heard
-  unfolding cTell
-  tell-short p = simp tests
-
-  pub tell-long : 13 ≤ length w → (t : Telling) (x : Heard) (a : Next) (f′ h′ b′ text′ : List ℕ) (e : Ended) → t ≡ tellingIn w → x ≡ heardIn heard
-      → goes a f′ h′ b′ text′ ≡ tellCall t f h b text x → e ≡ doesEnd (nextDoes a) w → told e f′ h′ b′ text′ ≡ cTell w f h b text heard
-  unfolding cTell goesTold
-  tell-long l t x a f′ h′ b′ text′ e et ex p q = rw (q, ← et, ← ex, ← p) (simp tests)

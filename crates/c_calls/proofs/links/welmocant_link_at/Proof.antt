@@ -1,9 +1,9 @@
--- `c_telling::links::welmocant_link_at` meets its contract.
+-- `c_calls::links::welmocant_link_at` meets its contract.
 -- Assumes nothing.
-use Rattle.c_telling.specs.Laws.Lists.{link-ends, link-refused}
+use Rattle.c_calls.specs.Laws.Lists.{link-ends, link-refused}
 use borrow.Author.Needs.{needs}
-use Rattle.c_telling.proofs.links.welmocant_link_at.Statement.{statement}
-use Rattle.c_telling.proofs.links.welmocant_link_at.Tie as tie
+use Rattle.c_calls.proofs.links.welmocant_link_at.Statement.{statement}
+use Rattle.c_calls.proofs.links.welmocant_link_at.Tie as tie
 
 -- src/links.rt:32:1
 returns : tie.Need-returns
