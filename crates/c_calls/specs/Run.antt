@@ -11,6 +11,11 @@ use Rattle.c_words.specs.State.{Holds}
 use Rattle.c_words.specs.Answers.{Reply}
 use Rattle.c_calls.specs.Call.{Returned, numberOf, cOpen, cTake, cClose}
 use Rattle.state.specs.declared.State.{State}
+use Rattle.telling.specs.Tell.{reads, rereads, reports, refusesAt, Goes}
+use Rattle.telling.specs.declared.Telling.{Telling}
+use Rattle.c_telling.specs.Telling.{HoldsTelling, SaysOver}
+use Rattle.c_telling.specs.Answers.{doesNumber}
+use Rattle.c_calls.specs.Tell.{Told}
 
 -- What a C call left is what the call of crate `state` leaves: the same answer, words that hold the same state, the same tables.
 pub record Follows {A : Type 0} (tells : Answer A → Reply) (r : Returned) (l : Left A) : Type 0 where
@@ -73,3 +78,17 @@ run m (x ∷ xs) = run (step m x) xs
 unfoldable pub cRun : Lent → List Step → Lent
 cRun l [] = l
 cRun l (x ∷ xs) = cRun (cStep l x) xs
+
+-- What a telling in C left is what `telling::tell` leaves: the number of what to do next, the same tables, buffer and text. Where it goes on,
+-- from here or from the start of the file, the words hold the telling to go on with; where a list was read they hold its state; and where it is
+-- over they say where, with which text and with which refusal.
+pub record FollowsTell (r : Told) (g : Goes) : Type 0 where
+  pub number : r .end .number ≡ doesNumber (g .turn .said .does)
+  pub on : (t : Telling) → g .turn .said .does ≡ reads t → HoldsTelling (r .end .words) t
+  pub again : (t : Telling) → g .turn .said .does ≡ rereads t → HoldsTelling (r .end .words) t
+  pub read : (s : State) (size : ℕ) → g .turn .said .does ≡ reports s size → Holds (r .end .words) s × SaysOver (r .end .words) 0 size 0
+  pub refused : (number place size : ℕ) → g .turn .said .does ≡ refusesAt number place size → SaysOver (r .end .words) place size number
+  pub frag : r .frag ≡ g .turn .frag
+  pub held : r .held ≡ g .turn .held
+  pub buffer : r .buffer ≡ g .buffer
+  pub text : r .text ≡ g .turn .said .text

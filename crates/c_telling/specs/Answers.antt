@@ -19,11 +19,23 @@ ended number w = record { number = number; words = w }
 abbrev pub overWords : (place size number : ℕ) → List ℕ → List ℕ
 overWords place size number w = restWords (stepWord Over) place size number w
 
--- What to do next, in a number; and the words: the telling to go on with; of a list that was read its state; else the state's words as they were.
+-- What to do next, in a number.
+abbrev pub doesNumber : Does → ℕ
+doesNumber (reads t) = 0
+doesNumber (rereads t) = 1
+doesNumber (reports s size) = 2
+doesNumber (refusesAt number place size) = 3
+doesNumber (lacks size) = 4
+doesNumber fails = 5
+
+-- The words: the telling to go on with; of a list that was read its state; else the state's words as they were.
+abbrev pub doesWords : Does → List ℕ → List ℕ
+doesWords (reads t) w = tellingWords t w
+doesWords (rereads t) w = tellingWords t w
+doesWords (reports s size) w = overWords 0 size 0 (stateWords s w)
+doesWords (refusesAt number place size) w = overWords place size number w
+doesWords (lacks size) w = overWords 0 size 0 w
+doesWords fails w = overWords 0 0 0 w
+
 abbrev pub doesEnd : Does → List ℕ → Ended
-doesEnd (reads t) w = ended 0 (tellingWords t w)
-doesEnd (rereads t) w = ended 1 (tellingWords t w)
-doesEnd (reports s size) w = ended 2 (overWords 0 size 0 (stateWords s w))
-doesEnd (refusesAt number place size) w = ended 3 (overWords place size number w)
-doesEnd (lacks size) w = ended 4 (overWords 0 size 0 w)
-doesEnd fails w = ended 5 (overWords 0 0 0 w)
+doesEnd d w = ended (doesNumber d) (doesWords d w)

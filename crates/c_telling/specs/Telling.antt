@@ -9,7 +9,7 @@ use lib.Dec.{ltb, eqb}
 use Rattle.base.specs.Pick.{pick}
 use Rattle.state.specs.declared.State.{State}
 use Rattle.state.specs.declared.Stage.the-variants.{Built}
-use Rattle.c_words.specs.State.{stateSize, stateIn, stateWords}
+use Rattle.c_words.specs.State.{stateSize, stateIn, stateWords, Holds, Fits}
 use Rattle.c_words.specs.Pair.{lowWord, highWord, joined}
 use Rattle.telling.specs.declared.Step.{Step}
 use Rattle.telling.specs.declared.Step.the-variants.{First, Head, Links, Over}
@@ -54,3 +54,17 @@ tellingWords t w = restWords (stepWord (t .step)) (t .offset) (t .have) 0 (state
 -- What was heard: the answer of a read, where 0 is the end of the file and -1, in 64 bits, a read that failed; -2 stands for no such file.
 unfoldable pub heardIn : ℕ → Heard
 heardIn x = pick (eqb x 0) End (pick (eqb x 18446744073709551615) Failed (pick (eqb x 18446744073709551614) NoFile (Bytes x)))
+
+-- The words w hold the telling t: there are enough, and it is read in them, its state whatever stage a bad stage word is read as.
+pub record HoldsTelling (w : List ℕ) (t : Telling) : Type 0 where
+  pub long : tellingSize ≤ length w
+  pub reads : tellingIn w ≡ t
+  pub state : Holds w (t .state)
+  pub fits : Fits (t .state)
+
+-- What the words of a telling that is over say: the place p, so many bytes of the text, the refusal r.
+pub record SaysOver (w : List ℕ) (p bytes r : ℕ) : Type 0 where
+  pub step : stepIn (getD w 7 0) ≡ Over
+  pub place : joined (getD w 8 0) (getD w 9 0) ≡ p
+  pub size : joined (getD w 10 0) (getD w 11 0) ≡ bytes
+  pub number : getD w 12 0 ≡ r
