@@ -18,10 +18,10 @@ use Rattle.telling.specs.Tell.{beginning, tellCall}
 use Rattle.telling.specs.declared.Telling.{Telling}
 use Rattle.c_telling.specs.Telling.{tellingSize, heardIn, HoldsTelling}
 use Rattle.c_calls.specs.Tell.{cBegin, cTell}
-use Rattle.c_calls.specs.Run.{Follows, Begins, Step, Moment, Lent, HoldsAt, run, cRun, FollowsTell}
+use Rattle.c_calls.specs.Run.{Follows, Begins, Step, Moment, Lent, HoldsAt, run, cRun, FollowsTell, Hearing, Teller, TellerLent, HoldsTeller, tellRun, cTellRun, SameCourse}
 use Rattle.c_calls.specs.File.{listHead, linksFrom}
 use Rattle.c_calls.specs.Laws.File.{file-parted}
-use Rattle.c_calls.specs.Laws.Tell.{begin-held, tell-held}
+use Rattle.c_calls.specs.Laws.Tell.{begin-held, tell-held, tell-run-held}
 use Rattle.c_calls.specs.Laws.Runs.{begins-begins, open-held, take-held, close-held, asks-held, run-held}
 use Rattle.state.specs.declared.State.{State}
 
@@ -81,3 +81,8 @@ begin-holds = begin-held
 
 pub tell-follows : (w f h b text : List ℕ) (t : Telling) → HoldsTelling w t → (heard : ℕ) → FollowsTell (cTell w f h b text heard) (tellCall t f h b text (heardIn heard))
 tell-follows = tell-held
+
+-- Any number of such calls, each with a buffer, a text and what was heard, from words that hold a telling: the C calls wait or stop where those of
+-- crate `telling` do.
+pub tell-run-holds : (xs : List Hearing) (l : TellerLent) (m : Teller) → HoldsTeller l m → SameCourse (cTellRun xs l) (tellRun xs m)
+tell-run-holds = tell-run-held

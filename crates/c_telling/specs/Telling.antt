@@ -7,7 +7,6 @@ use mathlib.Core.List.{List, [], _∷_, _++_}
 use lib.ListN.{length, getD, take, drop}
 use lib.Dec.{ltb, eqb}
 use Rattle.base.specs.Pick.{pick}
-use Rattle.state.specs.declared.State.{State}
 use Rattle.state.specs.declared.Stage.the-variants.{Built}
 use Rattle.c_words.specs.State.{stateSize, stateIn, stateWords, Holds, Fits}
 use Rattle.c_words.specs.Pair.{lowWord, highWord, joined}

@@ -1,7 +1,7 @@
 -- The list writer and a link in C, at each of their answers.
 -- Assumes nothing.
 use Prim.Native.Nat.{ℕ}
-use mathlib.Core.Path.{_≡_, refl, ap}
+use mathlib.Core.Path.{_≡_, refl}
 use mathlib.Core.List.{List}
 use Rattle.numbers.specs.Answers.{wrote}
 use Rattle.lists.specs.Answers.{toldLink}

@@ -1,23 +1,24 @@
 -- Begin and tell in C, at each of their answers.
 -- Assumes nothing.
 use Prim.Native.Nat.{ℕ, _≤_, _<_}
-use mathlib.Core.Path.{_≡_, refl, sym, subst}
-use mathlib.Core.List.{List}
+use mathlib.Core.Path.{_≡_, refl, sym, ap, _∙_, subst}
+use mathlib.Core.List.{List, [], _∷_}
 use lib.ListN.{length}
 use native.Mathlib.Omega.{arith}
-use Rattle.base.specs.Pick.{tests}
-use Rattle.telling.specs.Tell.{Does, reads, rereads, reports, refusesAt, Goes, nextDoes, goes, beginning, tellCall}
+use lib.Dec.{leb}
+use borrow.Author.Tests.{le-leb, lt-leb}
+use Rattle.base.specs.Pick.{pick, pick-true, pick-false, tests}
+use Rattle.telling.specs.Tell.{Does, reads, rereads, reports, refusesAt, lacks, fails, Goes, nextDoes, goes, beginning, tellCall}
 use Rattle.telling.specs.declared.Telling.{Telling}
 use Rattle.telling.specs.declared.Heard.{Heard}
 use Rattle.telling.specs.declared.Next.{Next}
-use Rattle.state.specs.declared.State.{State}
 use Rattle.c_words.specs.State.{wordMost, stateWords, Holds, Fits}
 use Rattle.c_telling.specs.Telling.{tellingSize, tellingIn, tellingWords, heardIn, HoldsTelling, SaysOver}
-use Rattle.c_telling.specs.Answers.{Ended, ended, overWords, doesWords, doesEnd}
+use Rattle.c_telling.specs.Answers.{Ended, ended, doesNumber, doesWords, doesEnd}
 use Rattle.c_telling.specs.Laws.Holds.{telling-holds, read-holds, over-says, state-long}
 use Rattle.c_telling.specs.Laws.Fits.{FitsNext, tell-fits}
 use Rattle.c_calls.specs.Tell.{Told, told, goesTold, cBegin, cTell}
-use Rattle.c_calls.specs.Run.{FollowsTell}
+use Rattle.c_calls.specs.Run.{FollowsTell, Hearing, Teller, TellerLent, HoldsTeller, stops, onward, tellerAt, tellerLentAt, tellRun, cTellRun, SameCourse}
 
 module _ (k : ℕ) (w : List ℕ) where
   pub begin-short : length w < 13 → ended 3 w ≡ cBegin k w
@@ -70,3 +71,31 @@ tell-held w f h b text t H heard =
     let g = tellCall t f h b text (heardIn heard) in
     let l = H .long in
     rw (H .reads) (simp tests (goes-follows w (H .long) g (tell-fits t (H .fits) f h b text (heardIn heard))))
+
+-- One call after another.
+module _ (xs : List Hearing) (ih : (l : TellerLent) (m : Teller) → HoldsTeller l m → SameCourse (cTellRun xs l) (tellRun xs m)) (r : Told) (g : Goes) (F : FollowsTell r g) where
+  goes-on : (t : Telling) → r .end .number ≤ 1 → HoldsTelling (r .end .words) t
+      → SameCourse (pick (leb (r .end .number) 1) (cTellRun xs (tellerLentAt r)) (stops r)) (tellRun xs (tellerAt g t))
+  goes-on t n H =
+      rw (le-leb (r .end .number) 1 n, pick-true)
+      (ih (tellerLentAt r) (tellerAt g t) (record { words = H; frag = F .frag; held = F .held }))
+
+  stays : 1 < r .end .number → SameCourse (pick (leb (r .end .number) 1) (cTellRun xs (tellerLentAt r)) (stops r)) (stops g)
+  stays n = rw (lt-leb (r .end .number) 1 n, pick-false) F
+
+  next-held : (d : Does) → g .turn .said .does ≡ d
+      → SameCourse (pick (leb (r .end .number) 1) (cTellRun xs (tellerLentAt r)) (stops r)) (onward d (stops g) (λ t. tellRun xs (tellerAt g t)))
+  next-held (reads t) e = goes-on t (omega (arith, F .number ∙ ap doesNumber e)) (F .on t e)
+  next-held (rereads t) e = goes-on t (omega (arith, F .number ∙ ap doesNumber e)) (F .again t e)
+  next-held (reports s size) e = stays (omega (arith, F .number ∙ ap doesNumber e))
+  next-held (refusesAt number place size) e = stays (omega (arith, F .number ∙ ap doesNumber e))
+  next-held (lacks size) e = stays (omega (arith, F .number ∙ ap doesNumber e))
+  next-held fails e = stays (omega (arith, F .number ∙ ap doesNumber e))
+
+pub tell-run-held : (xs : List Hearing) (l : TellerLent) (m : Teller) → HoldsTeller l m → SameCourse (cTellRun xs l) (tellRun xs m)
+unfolding cTellRun tellRun
+tell-run-held [] l m H = H
+tell-run-held (x ∷ xs) l m H =
+    let g = tellCall (m .telling) (m .frag) (m .held) (x .buffer) (x .text) (heardIn (x .heard)) in
+    let F = tell-held (l .words) (m .frag) (m .held) (x .buffer) (x .text) (m .telling) (H .words) (x .heard) in
+    rw (H .frag, H .held) (next-held xs (tell-run-held xs) (cTell (l .words) (m .frag) (m .held) (x .buffer) (x .text) (x .heard)) g F (g .turn .said .does) refl)

@@ -8,9 +8,7 @@ use lib.ListN.{take}
 use Rattle.base.specs.Pick.{pick-all}
 use Rattle.base.specs.Answer.{Answer, gives, refuses}
 use Rattle.lists.specs.Laws.Link.{never-both}
-use Rattle.numbers.specs.Number.{Wrote}
 use Rattle.state.specs.Call.{Begun, Left}
-use Rattle.state.specs.Start.{startCall}
 use Rattle.state.specs.Take.{takeCall}
 use Rattle.state.specs.Close.{Ending, more, whole, read, openCall, closeCall}
 use Rattle.state.specs.Laws.KeepsCalls.{Upholds, take-keeps, open-keeps, close-keeps}
@@ -19,7 +17,7 @@ use Rattle.c_words.specs.State.{Fits}
 use Rattle.c_words.specs.Laws.Holds.{passed-fits}
 use Rattle.parts.specs.Parts.{Header, Opens, Carry, Feeds, openPart, fedBy, fed, tellable, feedPart}
 use Rattle.lines.specs.Report.{reportCall}
-use Rattle.telling.specs.Tell.{Does, reads, rereads, reports, refusesAt, lacks, fails, Said, Turn, Goes, tellingOf, refusing, missing, reportingBy, reporting, retelling, openingBy, opening, endingBy, ending, feedingBy, feeding, entering, unfinished, enteredBy, entered, headingBy, heading, parted, given, tellCall}
+use Rattle.telling.specs.Tell.{Does, reads, rereads, reports, refusesAt, lacks, fails, Said, Goes, tellingOf, refusing, missing, reportingBy, reporting, openingBy, opening, endingBy, ending, feedingBy, feeding, entering, enteredBy, entered, headingBy, heading, parted, given, tellCall}
 use Rattle.telling.specs.declared.Step.{Step}
 use Rattle.telling.specs.declared.Step.the-variants.{First, Head, Links, Over}
 use Rattle.telling.specs.declared.Telling.{Telling}

@@ -16,7 +16,7 @@ use Rattle.c_words.specs.Laws.Pair.{pair-back}
 use Rattle.telling.specs.declared.Step.{Step}
 use Rattle.telling.specs.declared.Step.the-variants.{First, Head, Links, Over}
 use Rattle.telling.specs.declared.Telling.{Telling}
-use Rattle.c_telling.specs.Telling.{tellingSize, stepIn, tellingIn, stepWord, restList, restWords, tellingWords, HoldsTelling, SaysOver}
+use Rattle.c_telling.specs.Telling.{tellingSize, stepIn, stepWord, restList, restWords, tellingWords, HoldsTelling, SaysOver}
 use Rattle.c_telling.specs.Answers.{overWords}
 use Rattle.c_telling.specs.Laws.Steps.{telling-in}
 

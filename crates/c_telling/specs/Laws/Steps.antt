@@ -12,10 +12,8 @@ use Rattle.numbers.specs.declared.Refusal.{Refusal}
 use Rattle.c_words.specs.State.{stateIn, stateWords}
 use Rattle.c_words.specs.Pair.{lowWord, highWord, joined}
 use Rattle.telling.specs.Tell.{nextDoes}
-use Rattle.telling.specs.declared.Step.{Step}
 use Rattle.telling.specs.declared.Step.the-variants.{First, Head, Links, Over}
 use Rattle.telling.specs.declared.Telling.{Telling}
-use Rattle.telling.specs.declared.Heard.{Heard}
 use Rattle.telling.specs.declared.Heard.the-variants.{Bytes, End, Failed, NoFile}
 use Rattle.telling.specs.declared.Next.{Next}
 use Rattle.telling.specs.declared.Next.the-variants.{More, Again, Report, Refused, NoFile as Absent, Failed as Unread}

@@ -17,7 +17,7 @@ use Rattle.state.specs.Laws.Keeps.{Passes, head-passes}
 use Rattle.state.specs.declared.State.{State}
 use Rattle.state.specs.declared.Stage.{Stage}
 use Rattle.state.specs.declared.Stage.the-variants.{Building, Built, Reading, Read}
-use Rattle.c_words.specs.State.{stateSize, stageIn, stateIn, stageWord, markWord, wordMost, wordFor, stateList, stateWords, Holds, Fits}
+use Rattle.c_words.specs.State.{stateSize, stageIn, stateIn, stageWord, markWord, wordFor, stateList, stateWords, Holds, Fits}
 use Rattle.c_words.specs.Laws.Steps.{word-fits, entries-good, state-in}
 
 -- 'n: 1 to 32,768. Room k: 1 to 64. Entries in one pass: at most 16,777,215'; no more held links than k·n, no more passes than fragments and one.

@@ -1,6 +1,5 @@
 -- `c_telling::words::telling_in` meets its contract.
 -- Assumes nothing.
-use mathlib.Core.Path.{refl}
 use Rattle.c_telling.specs.Laws.Steps.{telling-in}
 use borrow.Author.Needs.{needs}
 use Rattle.c_telling.proofs.words.telling_in.Statement.{statement}
