@@ -24,13 +24,18 @@ tellingSize = 13
 unfoldable pub stepIn : ℕ → Step
 stepIn x = pick (eqb x 0) First (pick (eqb x 1) Head (pick (eqb x 2) Links Over))
 
+-- How many bytes stand at the buffer's front, of the words for the step and for the number: none where the telling is over, whose words have the
+-- size of the text there.
+unfoldable pub haveIn : (step low high : ℕ) → ℕ
+haveIn step low high = pick (ltb 2 step) 0 (joined low high)
+
 -- The telling in an array of words. A stage word above 3 is read as Built, in which neither take nor close is allowed: refusal 6, in its order.
 unfoldable pub tellingIn : List ℕ → Telling
 tellingIn w = record {
   state = stateIn Built w;
   step = stepIn (getD w 7 0);
   offset = joined (getD w 8 0) (getD w 9 0);
-  have = joined (getD w 10 0) (getD w 11 0);
+  have = haveIn (getD w 7 0) (getD w 10 0) (getD w 11 0);
 }
 
 abbrev pub stepWord : Step → ℕ
@@ -53,6 +58,10 @@ tellingWords t w = restWords (stepWord (t .step)) (t .offset) (t .have) 0 (state
 -- What was heard: the answer of a read, where 0 is the end of the file and -1, in 64 bits, a read that failed; -2 stands for no such file.
 unfoldable pub heardIn : ℕ → Heard
 heardIn x = pick (eqb x 0) End (pick (eqb x 18446744073709551615) Failed (pick (eqb x 18446744073709551614) NoFile (Bytes x)))
+
+-- A telling that is over has no bytes at the buffer's front.
+abbrev pub NoneOver : Telling → Type 0
+NoneOver t = t .step ≡ Over → t .have ≡ 0
 
 -- The words w hold the telling t: there are enough, and it is read in them, its state whatever stage a bad stage word is read as.
 pub record HoldsTelling (w : List ℕ) (t : Telling) : Type 0 where

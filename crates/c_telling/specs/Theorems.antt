@@ -6,12 +6,12 @@ use mathlib.Core.List.{List}
 use lib.ListN.{length, take}
 use Rattle.c_words.specs.State.{stateSize, Fits}
 use Rattle.telling.specs.declared.Telling.{Telling}
-use Rattle.c_telling.specs.Telling.{tellingSize, tellingWords, HoldsTelling, SaysOver}
+use Rattle.c_telling.specs.Telling.{tellingSize, tellingWords, NoneOver, HoldsTelling, SaysOver}
 use Rattle.c_telling.specs.Answers.{overWords}
 use Rattle.c_telling.specs.Laws.Holds.{telling-holds, over-says, over-state}
 
 -- A telling to go on with.
-pub telling-back : (t : Telling) (w : List ℕ) → tellingSize ≤ length w → Fits (t .state) → HoldsTelling (tellingWords t w) t
+pub telling-back : (t : Telling) (w : List ℕ) → tellingSize ≤ length w → Fits (t .state) → NoneOver t → HoldsTelling (tellingWords t w) t
 telling-back = telling-holds
 
 -- The place, the size and the number of one that is over, and the words of the state as they were.

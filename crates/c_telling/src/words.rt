@@ -1,7 +1,7 @@
 // A telling in an array of words.
 ghost use mathlib.Core.Path.{_≡_};
 ghost use Rattle.telling.specs.Tell.{nextDoes};
-ghost use Rattle.c_telling.specs.Telling.{stepIn, tellingIn, stepWord, restWords, tellingWords, heardIn};
+ghost use Rattle.c_telling.specs.Telling.{stepIn, haveIn, tellingIn, stepWord, restWords, tellingWords, heardIn};
 ghost use Rattle.c_telling.specs.Answers.{ended, doesEnd};
 use c_words::high;
 use c_words::joined;
@@ -37,15 +37,26 @@ fn step_in(word: u32) -> Step
     Step::Over
 }
 
+// How many bytes stand at the buffer's front. Where the telling is over none do: its words have the size of the text there.
+fn have_in(step: u32, low: u32, high: u32) -> usize
+    ensures { λ r. ⌜ r ≡ haveIn step low high ⌝ }
+{
+    if step > 2 {
+        return 0;
+    }
+    joined(low, high)
+}
+
 // The telling in an array of words; a bad stage word is read as Built, in which no link is taken and no pass closed.
 pub fn telling_in(words: &[u32]) -> Telling
     ensures { λ r. ⌜ r ≡ tellingIn (now (words .entry)) ⌝ }
 {
+    let step = word(words, 7);
     Telling {
         state: unpack(Stage::Built, words),
-        step: step_in(word(words, 7)),
+        step: step_in(step),
         offset: joined(word(words, 8), word(words, 9)),
-        have: joined(word(words, 10), word(words, 11)),
+        have: have_in(step, word(words, 10), word(words, 11)),
     }
 }
 

@@ -13,7 +13,7 @@ use Rattle.telling.specs.declared.Telling.{Telling}
 use Rattle.telling.specs.declared.Heard.{Heard}
 use Rattle.telling.specs.declared.Next.{Next}
 use Rattle.c_words.specs.State.{wordMost, stateWords, Holds, Fits}
-use Rattle.c_telling.specs.Telling.{tellingSize, tellingIn, tellingWords, heardIn, HoldsTelling, SaysOver}
+use Rattle.c_telling.specs.Telling.{tellingSize, tellingIn, tellingWords, heardIn, NoneOver, HoldsTelling, SaysOver}
 use Rattle.c_telling.specs.Answers.{Ended, ended, doesNumber, doesWords, doesEnd}
 use Rattle.c_telling.specs.Laws.Holds.{telling-holds, read-holds, over-says, state-long}
 use Rattle.c_telling.specs.Laws.Fits.{FitsNext, tell-fits}
@@ -44,17 +44,21 @@ begun-fits : (k : ℕ) → k ≤ wordMost → Fits (beginning k .state)
 unfolding beginning
 begun-fits k m = record { n-fits = omega arith; k-fits = m; passes-fit = omega arith; entries-fit = omega arith; held-fits = omega arith }
 
+begun-none : (k : ℕ) → NoneOver (beginning k)
+unfolding beginning
+begun-none k e = refl
+
 pub begin-held : (k : ℕ) (w : List ℕ) → tellingSize ≤ length w → k ≤ wordMost → HoldsTelling (cBegin k w .words) (beginning k)
 unfolding cBegin
-begin-held k w l m = simp tests (telling-holds (beginning k) w l (begun-fits k m))
+begin-held k w l m = simp tests (telling-holds (beginning k) w l (begun-fits k m) (begun-none k))
 
 module _ (w : List ℕ) (l : tellingSize ≤ length w) (g : Goes) (F : FitsNext (g .turn .said .does)) where
   goes-follows : FollowsTell (goesTold w g) g
   unfolding goesTold
   goes-follows = record {
     number = refl;
-    on = λ t e. subst (λ (d : Does). HoldsTelling (doesWords d w) t) (sym e) (telling-holds t w l (subst FitsNext e F));
-    again = λ t e. subst (λ (d : Does). HoldsTelling (doesWords d w) t) (sym e) (telling-holds t w l (subst FitsNext e F));
+    on = λ t e. subst (λ (d : Does). HoldsTelling (doesWords d w) t) (sym e) (let K = subst FitsNext e F in telling-holds t w l (K .0) (K .1));
+    again = λ t e. subst (λ (d : Does). HoldsTelling (doesWords d w) t) (sym e) (let K = subst FitsNext e F in telling-holds t w l (K .0) (K .1));
     read = λ s size e.
         subst (λ (d : Does). Holds (doesWords d w) s × SaysOver (doesWords d w) 0 size 0) (sym e)
         (read-holds s w 3 0 size 0 l (subst FitsNext e F), over-says 0 size 0 (stateWords s w) (state-long s w l));

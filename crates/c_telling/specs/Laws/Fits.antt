@@ -1,10 +1,11 @@
 -- What telling goes on with has a state whose numbers fit in words, where the one that it began with has.
 -- Assumes nothing.
-use Prim.Native.Nat.{ℕ, _+_}
-use mathlib.Core.Path.{_≡_, refl}
+use Prim.Native.Nat.{ℕ, _+_, _≤_}
+use mathlib.Core.Path.{_≡_, refl, ap}
 use mathlib.Core.Bool.{Bool, true, false}
 use mathlib.Core.List.{List}
 use lib.ListN.{take}
+use native.Mathlib.Omega.{arith}
 use Rattle.base.specs.Pick.{pick-all}
 use Rattle.base.specs.Answer.{Answer, gives, refuses}
 use Rattle.lists.specs.Laws.Link.{never-both}
@@ -18,6 +19,7 @@ use Rattle.c_words.specs.Laws.Holds.{passed-fits}
 use Rattle.parts.specs.Parts.{Header, Opens, Carry, Feeds, openPart, fedBy, fed, tellable, feedPart}
 use Rattle.lines.specs.Report.{reportCall}
 use Rattle.telling.specs.Tell.{Does, reads, rereads, reports, refusesAt, lacks, fails, Said, Goes, tellingOf, refusing, missing, reportingBy, reporting, openingBy, opening, endingBy, ending, feedingBy, feeding, entering, enteredBy, entered, headingBy, heading, parted, given, tellCall}
+use Rattle.c_telling.specs.Telling.{stepWord, NoneOver}
 use Rattle.telling.specs.declared.Step.{Step}
 use Rattle.telling.specs.declared.Step.the-variants.{First, Head, Links, Over}
 use Rattle.telling.specs.declared.Telling.{Telling}
@@ -25,12 +27,16 @@ use Rattle.telling.specs.declared.Heard.{Heard}
 use Rattle.telling.specs.declared.Heard.the-variants.{Bytes, End, Failed, NoFile}
 
 abbrev pub FitsNext : Does → Type 0
-FitsNext (reads t) = Fits (t .state)
-FitsNext (rereads t) = Fits (t .state)
+FitsNext (reads t) = Fits (t .state) × NoneOver t
+FitsNext (rereads t) = Fits (t .state) × NoneOver t
 FitsNext (reports s size) = Fits s
 FitsNext (refusesAt number place size) = Unit
 FitsNext (lacks size) = Unit
 FitsNext fails = Unit
+
+-- One that is not over.
+is-on : (p : Step) (have : ℕ) → stepWord p ≤ 2 → p ≡ Over → have ≡ 0
+is-on p have l e = absurd (omega (arith, ap stepWord e))
 
 FitsSaid : Said → Type 0
 FitsSaid x = FitsNext (x .does)
@@ -53,7 +59,7 @@ reporting-fits s f h text F (refuses number place) = refusing-fits number place 
 
 opened-fits : (s : State) (f h text : List ℕ) (l : Left (Unit {0})) → Upholds s f h l → (x : Answer (Unit {0})) → l .answer ≡ x → FitsNext (openingBy l text x .said .does)
 unfolding openingBy
-opened-fits s f h text l u (gives x) e = upheld-fits s f h l u x e
+opened-fits s f h text l u (gives x) e = (upheld-fits s f h l u x e, is-on Head 0 (omega arith))
 opened-fits s f h text l u (refuses number place) e = refusing-fits number place text
 
 opening-fits : (s : State) (f h text : List ℕ) → FitsNext (opening (openCall s f h) text .said .does)
@@ -62,7 +68,7 @@ opening-fits s f h text = opened-fits s f h text (openCall s f h) (open-keeps s 
 
 ended-fits : (s : State) (f h text : List ℕ) (l : Left Ending) → Upholds s f h l → (x : Answer Ending) → l .answer ≡ x → FitsNext (endingBy l text x .said .does)
 unfolding endingBy reporting
-ended-fits s f h text l u (gives more) e = upheld-fits s f h l u more e
+ended-fits s f h text l u (gives more) e = (upheld-fits s f h l u more e, is-on Head 0 (omega arith))
 ended-fits s f h text l u (gives whole) e = opening-fits (l .state) (l .frag) (l .held) text
 ended-fits s f h text l u (gives read) e =
     let w = reportCall (l .state) (l .frag) (l .held) text in
@@ -94,7 +100,7 @@ fed-fits s f h b len offset last =
 
 feeding-by : (last : Bool) (text : List ℕ) (w : Feeds) → FitsFed w → (x : Answer Carry) → w .left .answer ≡ x → FitsGoes (feedingBy last text w x)
 unfolding feedingBy FitsFed FitsGoes
-feeding-by last text w F (gives c) e = pick-all FitsGoes _ _ _ (ending-fits (w .left .state) (w .left .frag) (w .left .held) text) (F c e)
+feeding-by last text w F (gives c) e = pick-all FitsGoes _ _ _ (ending-fits (w .left .state) (w .left .frag) (w .left .held) text) (F c e, is-on Links (c .have) (omega arith))
 feeding-by last text w F (refuses number place) e = refusing-fits number place text
 
 feeding-fits : (last : Bool) (text : List ℕ) (s : State) (f h b : List ℕ) (len offset : ℕ) → FitsGoes (feeding last text (feedPart s f h b len offset last))
@@ -107,23 +113,23 @@ entered-by begins have last text b u (gives s) = feeding-fits last text s (u .fr
 entered-by begins have last text b u (refuses number place) = refusing-fits number place text
 
 module _ (t : Telling) (F : Fits (t .state)) (f h text : List ℕ) (last : Bool) where
-  heading-by : (b : List ℕ) (x : Answer Header) → FitsGoes (headingBy t f h text last b x)
+  heading-by : stepWord (t .step) ≤ 2 → (b : List ℕ) (x : Answer Header) → FitsGoes (headingBy t f h text last b x)
   unfolding headingBy entered FitsGoes FitsSaid
-  heading-by b (gives head) =
+  heading-by l b (gives head) =
       let u = entering (t .state) (t .step) (head .fragments) f h in
       entered-by (head .begins) (head .have) last text b u (u .answer)
-  heading-by b (refuses number place) = pick-all FitsSaid _ _ _ F (refusing-fits number place text)
+  heading-by l b (refuses number place) = pick-all FitsSaid _ _ _ (F, is-on (t .step) (t .have) l) (refusing-fits number place text)
 
-  heading-fits : (w : Opens) → FitsGoes (heading t f h text last w)
+  heading-fits : stepWord (t .step) ≤ 2 → (w : Opens) → FitsGoes (heading t f h text last w)
   unfolding heading
-  heading-fits w = heading-by (w .buffer) (w .answer)
+  heading-fits l w = heading-by l (w .buffer) (w .answer)
 
-  parted-fits : (b : List ℕ) (step : Step) → FitsGoes (parted t f h b text last step)
+  parted-fits : (b : List ℕ) (step : Step) → t .step ≡ step → FitsGoes (parted t f h b text last step)
   unfolding parted FitsGoes
-  parted-fits b First = heading-fits (openPart (t .have) b)
-  parted-fits b Head = heading-fits (openPart (t .have) b)
-  parted-fits b Links = feeding-fits last text (t .state) f h b (t .have) (t .offset)
-  parted-fits b Over = refusing-fits 6 0 text
+  parted-fits b First e = heading-fits (omega (arith, ap stepWord e)) (openPart (t .have) b)
+  parted-fits b Head e = heading-fits (omega (arith, ap stepWord e)) (openPart (t .have) b)
+  parted-fits b Links e = feeding-fits last text (t .state) f h b (t .have) (t .offset)
+  parted-fits b Over e = refusing-fits 6 0 text
 
 module _ (t : Telling) (F : Fits (t .state)) (f h b text : List ℕ) where
   given-fits : (count : ℕ) (last : Bool) → FitsGoes (given t f h b text count last)
@@ -131,7 +137,7 @@ module _ (t : Telling) (F : Fits (t .state)) (f h b text : List ℕ) where
   given-fits count last =
       pick-all FitsGoes _ _ _ (refusing-fits 3 0 text)
       (pick-all FitsGoes _ _ _ (refusing-fits 3 0 text)
-      (parted-fits (tellingOf (t .state) (t .step) (t .offset) (t .have + count)) F f h text last b (t .step)))
+      (parted-fits (tellingOf (t .state) (t .step) (t .offset) (t .have + count)) F f h text last b (t .step) refl))
 
   pub tell-fits : (heard : Heard) → FitsNext (tellCall t f h b text heard .turn .said .does)
   unfolding tellCall FitsGoes missing

@@ -10,15 +10,15 @@ use Rattle.base.specs.Pick.{tests}
 use Rattle.state.specs.declared.State.{State}
 use Rattle.state.specs.declared.Stage.the-variants.{Built}
 use Rattle.c_words.specs.State.{stateSize, stateList, stateWords, Holds, Fits}
-use Rattle.c_words.specs.Pair.{joined}
+use Rattle.c_words.specs.Pair.{lowWord, highWord, joined}
 use Rattle.c_words.specs.Laws.Holds.{written, list-holds}
 use Rattle.c_words.specs.Laws.Pair.{pair-back}
 use Rattle.telling.specs.declared.Step.{Step}
 use Rattle.telling.specs.declared.Step.the-variants.{First, Head, Links, Over}
 use Rattle.telling.specs.declared.Telling.{Telling}
-use Rattle.c_telling.specs.Telling.{tellingSize, stepIn, stepWord, restList, restWords, tellingWords, HoldsTelling, SaysOver}
+use Rattle.c_telling.specs.Telling.{tellingSize, stepIn, haveIn, NoneOver, stepWord, restList, restWords, tellingWords, HoldsTelling, SaysOver}
 use Rattle.c_telling.specs.Answers.{overWords}
-use Rattle.c_telling.specs.Laws.Steps.{telling-in}
+use Rattle.c_telling.specs.Laws.Steps.{have-over, have-on, telling-in}
 
 step-back : (p : Step) → p ≡ stepIn (stepWord p)
 unfolding stepIn
@@ -26,6 +26,12 @@ step-back First = simp tests
 step-back Head = simp tests
 step-back Links = simp tests
 step-back Over = simp tests
+
+have-back : (p : Step) (x : ℕ) → (p ≡ Over → x ≡ 0) → x ≡ haveIn (stepWord p) (lowWord x) (highWord x)
+have-back First x z = have-on 0 (lowWord x) (highWord x) x (omega arith) (sym (pair-back x))
+have-back Head x z = have-on 1 (lowWord x) (highWord x) x (omega arith) (sym (pair-back x))
+have-back Links x z = have-on 2 (lowWord x) (highWord x) x (omega arith) (sym (pair-back x))
+have-back Over x z = z refl ∙ have-over 3 (lowWord x) (highWord x) (omega arith)
 
 pub rest-written : (step place count number : ℕ) (w : List ℕ) → tellingSize ≤ length w
     → restWords step place count number w ≡ take stateSize w ++ restList step place count number ++ drop tellingSize w
@@ -46,16 +52,16 @@ module _ (s : State) (w : List ℕ) (l : tellingSize ≤ length w) (step place c
   pub both-long : tellingSize ≤ length (stateList s ++ behind)
   both-long = omega arith
 
-pub telling-holds : (t : Telling) (w : List ℕ) → tellingSize ≤ length w → Fits (t .state) → HoldsTelling (tellingWords t w) t
+pub telling-holds : (t : Telling) (w : List ℕ) → tellingSize ≤ length w → Fits (t .state) → NoneOver t → HoldsTelling (tellingWords t w) t
 unfolding tellingWords
-telling-holds t w l F =
+telling-holds t w l F z =
     let s = t .state in
     let u = behind s w l (stepWord (t .step)) (t .offset) (t .have) 0 in
     let H = list-holds s u F in
     rw (both-written s w l (stepWord (t .step)) (t .offset) (t .have) 0)
     (record {
       long = both-long s w l (stepWord (t .step)) (t .offset) (t .have) 0;
-      reads = sym (telling-in (stateList s ++ u) t _ _ _ _ _ refl refl refl refl refl (sym (H .reads Built)) (step-back (t .step)) (sym (pair-back (t .offset))) (sym (pair-back (t .have))));
+      reads = sym (telling-in (stateList s ++ u) t _ _ _ _ _ refl refl refl refl refl (sym (H .reads Built)) (step-back (t .step)) (sym (pair-back (t .offset))) (have-back (t .step) (t .have) z));
       state = H;
       fits = F;
     })

@@ -17,7 +17,7 @@ use Rattle.telling.specs.declared.Telling.{Telling}
 use Rattle.telling.specs.declared.Heard.the-variants.{Bytes, End, Failed, NoFile}
 use Rattle.telling.specs.declared.Next.{Next}
 use Rattle.telling.specs.declared.Next.the-variants.{More, Again, Report, Refused, NoFile as Absent, Failed as Unread}
-use Rattle.c_telling.specs.Telling.{stepIn, tellingIn, stepWord, restList, restWords, tellingWords, heardIn}
+use Rattle.c_telling.specs.Telling.{stepIn, haveIn, tellingIn, stepWord, restList, restWords, tellingWords, heardIn}
 use Rattle.c_telling.specs.Answers.{ended, overWords, doesEnd}
 
 -- The step of a word.
@@ -39,6 +39,15 @@ module _ (x : ℕ) where
       pub step-over : (x ≡ 2 → ⊥) → Over ≡ stepIn x
       unfolding stepIn
       step-over p = simp tests
+
+-- The bytes at the buffer's front.
+pub have-over : (x low high : ℕ) → 2 < x → 0 ≡ haveIn x low high
+unfolding haveIn
+have-over x low high p = simp tests
+
+pub have-on : (x low high r : ℕ) → x ≤ 2 → r ≡ joined low high → r ≡ haveIn x low high
+unfolding haveIn
+have-on x low high r p e = rw e (simp tests)
 
 -- What was heard.
 module _ (x : ℕ) where
@@ -62,7 +71,7 @@ module _ (x : ℕ) where
 
 -- The telling, part by part.
 pub telling-in : (w : List ℕ) (t : Telling) (x a b c d : ℕ) → x ≡ getD w 7 0 → a ≡ getD w 8 0 → b ≡ getD w 9 0 → c ≡ getD w 10 0 → d ≡ getD w 11 0
-    → t .state ≡ stateIn Built w → t .step ≡ stepIn x → t .offset ≡ joined a b → t .have ≡ joined c d → t ≡ tellingIn w
+    → t .state ≡ stateIn Built w → t .step ≡ stepIn x → t .offset ≡ joined a b → t .have ≡ haveIn x c d → t ≡ tellingIn w
 unfolding tellingIn
 telling-in w t x a b c d ex ea eb ec ed s p o h = rw (← ex, ← ea, ← eb, ← ec, ← ed) λ i. record { state = s i; step = p i; offset = o i; have = h i }
 
