@@ -2,8 +2,8 @@
  *
  * Every function is proved: it ends, touches nothing but what is lent to it, and does what document 01 says for every input. But for
  * welmocant_whole and welmocant_tell, it answers the number of a refusal (enum below), 0 where the call is accepted. A refused call changes no
- * lent word but the last argument (welmocant_head: the last two; welmocant_link_at: the last three), with one exception: WELMOCANT_FALSE of
- * welmocant_close also clears the notes and goes back to Built.
+ * lent word but the last argument (welmocant_head: the last two; welmocant_link_at: the last three), with two exceptions: WELMOCANT_FALSE of
+ * welmocant_close also clears the notes and goes back to Built, and welmocant_tell, which makes many calls, writes in all that is lent to it.
  *
  * What is lent
  *   state: WELMOCANT_STATE words: n, k, stage (0 Building, 1 Built, 2 Reading, 3 Read), passes, entries, held links, false mark.
@@ -123,8 +123,8 @@ enum {
 uint32_t welmocant_begin(uint32_t k, uint32_t *telling, size_t tellings);
 
 /* Tells what was read; a buffer has room for a link, six bytes, or is refused with WELMOCANT_SHORT. Where the telling's array is too short:
- * WELMOCANT_REFUSED, and nothing is written. What is read for a telling that is over, or for one whose stage word is above 3, is refused with
- * WELMOCANT_STAGE. */
+ * WELMOCANT_REFUSED, and nothing is written. What is read for a telling that is over, or whose stage word is above 3 after its first head, is
+ * refused with WELMOCANT_STAGE. */
 uint32_t welmocant_tell(uint32_t *telling, size_t tellings, uint32_t *frag, size_t frags, uint32_t *held, size_t helds, uint8_t *buffer, size_t bytes, uint8_t *text, size_t texts, size_t heard);
 
 /* Writes a list to the front of a buffer: n, then the links, two words each. *size is how many bytes were written, 0 where it is refused
