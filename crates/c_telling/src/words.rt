@@ -18,6 +18,10 @@ use telling::Telling;
 // Words of a telling.
 pub const TELLING: usize = 13;
 
+// The step of a telling that is over.
+const OVER: u32 = 3;
+
+// What stands for a read that failed, and for no such file.
 const FAILED: usize = 18446744073709551615;
 
 const NO_FILE: usize = 18446744073709551614;
@@ -126,19 +130,19 @@ pub fn end_tell(next: Next, words: &mut [u32]) -> u32
         }
         Next::Report(s, size) => {
             pack(s, words);
-            put_rest(3, 0, size, 0, words);
+            put_rest(OVER, 0, size, 0, words);
             2
         }
         Next::Refused(bad, size) => {
-            put_rest(3, bad.place, size, bad.number, words);
+            put_rest(OVER, bad.place, size, bad.number, words);
             3
         }
         Next::NoFile(size) => {
-            put_rest(3, 0, size, 0, words);
+            put_rest(OVER, 0, size, 0, words);
             4
         }
         Next::Failed => {
-            put_rest(3, 0, 0, 0, words);
+            put_rest(OVER, 0, 0, 0, words);
             5
         }
     }

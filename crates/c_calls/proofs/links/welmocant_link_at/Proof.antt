@@ -5,11 +5,9 @@ use borrow.Author.Needs.{needs}
 use Rattle.c_calls.proofs.links.welmocant_link_at.Statement.{statement}
 use Rattle.c_calls.proofs.links.welmocant_link_at.Tie as tie
 
--- src/links.rt:32:1
 returns : tie.Need-returns
 returns c = link-ends _ _ _ _ _ (c .before .before .before .link-at .ensures) _ _ _ (c .before .first .given .1)
 
--- src/links.rt:32:1
 returns-2 : tie.Need-returns-2
 returns-2 c = link-refused _ _ _ _ _ (c .before .before .before .link-at .ensures) _ (c .before .bad .given .1)
 

@@ -5,11 +5,9 @@ use borrow.Author.Needs.{needs}
 use Rattle.c_calls.proofs.links.welmocant_write_list.Statement.{statement}
 use Rattle.c_calls.proofs.links.welmocant_write_list.Tie as tie
 
--- src/links.rt:10:1
 returns : tie.Need-returns
 returns c = write-end _ _ (c .before .before .before .before .before .before .before .before .before .args .buffer .now) _ _ (c .before .before .before .before .before .write-list .ensures) _ (c .before .end .given .1)
 
--- src/links.rt:10:1
 returns-2 : tie.Need-returns-2
 returns-2 c = write-refused _ _ (c .before .before .before .before .before .before .before .before .before .args .buffer .now) _ _ (c .before .before .before .before .before .write-list .ensures) _ (c .before .bad .given .1)
 

@@ -6,11 +6,9 @@ use borrow.Author.Needs.{needs}
 use Rattle.c_calls.proofs.tell_file.welmocant_begin.Statement.{statement}
 use Rattle.c_calls.proofs.tell_file.welmocant_begin.Tie as tie
 
--- src/tell_file.rt:19:9
 returns : tie.Need-returns
 returns c = begin-short _ _ (omega arith)
 
--- src/tell_file.rt:14:1
 returns-2 : tie.Need-returns-2
 returns-2 c = begin-long _ (c .before .before .before .before .before .before .before .before .args .words .now) (omega arith) _ _ _ (c .before .before .before .before .before .wide .ensures) (c .before .before .before .before .begin .ensures) (c .before .before .put-telling .ensures)
 

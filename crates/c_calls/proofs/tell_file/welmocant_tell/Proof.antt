@@ -6,11 +6,9 @@ use borrow.Author.Needs.{needs}
 use Rattle.c_calls.proofs.tell_file.welmocant_tell.Statement.{statement}
 use Rattle.c_calls.proofs.tell_file.welmocant_tell.Tie as tie
 
--- src/tell_file.rt:38:9
 returns : tie.Need-returns
 returns c = tell-short _ _ _ _ _ _ (omega arith)
 
--- src/tell_file.rt:26:1
 returns-2 : tie.Need-returns-2
 returns-2 c = let a = c .before .before .before .before .before .before .before .before .before .before .before .before .before .before .before .before .before .before .before .before .before .before .before .before .before .before .args in tell-long (a .words .now) (a .frag .now) (a .held .now) (a .buffer .now) (a .text .now) _ (omega arith) _ _ (c .before .before .before .before .before .before .before .before .before .before .before .before .tell .result) _ _ _ _ _ (c .before .before .before .before .before .before .before .before .before .before .before .before .before .before .before .before .before .before .telling-in .ensures) (c .before .before .before .before .before .before .before .before .before .before .before .before .before .heard-in .ensures) (c .before .before .before .before .before .before .before .before .before .before .before .before .tell .ensures) (c .before .before .end-tell .ensures)
 

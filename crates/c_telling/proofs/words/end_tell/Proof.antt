@@ -5,27 +5,21 @@ use borrow.Author.Needs.{needs}
 use Rattle.c_telling.proofs.words.end_tell.Statement.{statement}
 use Rattle.c_telling.proofs.words.end_tell.Tie as tie
 
--- src/words.rt:104:1
 returns : tie.Need-returns
 returns c = end-more (c .before .before .before .before .before .before .before .before .args .words .now) _ _ _ (c .before .before .before .before .before .next .given .1) (c .before .before .put-telling .ensures)
 
--- src/words.rt:104:1
 returns-2 : tie.Need-returns-2
 returns-2 c = end-again (c .before .before .before .before .before .before .before .before .args .words .now) _ _ _ (c .before .before .before .before .before .next2 .given .1) (c .before .before .put-telling2 .ensures)
 
--- src/words.rt:104:1
 returns-3 : tie.Need-returns-3
 returns-3 c = end-report (c .before .before .before .before .before .before .before .before .before .before .before .before .args .words .now) _ _ _ _ _ (c .before .before .before .before .before .before .before .before .before .next3 .given .1) (c .before .before .before .before .before .before .pack .ensures) (c .before .before .put-rest .ensures)
 
--- src/words.rt:104:1
 returns-4 : tie.Need-returns-4
 returns-4 c = end-refused (c .before .before .before .before .before .before .before .before .args .words .now) _ _ _ _ (c .before .before .before .before .before .next4 .given .1) (c .before .before .put-rest2 .ensures)
 
--- src/words.rt:104:1
 returns-5 : tie.Need-returns-5
 returns-5 c = end-absent (c .before .before .before .before .before .before .before .before .args .words .now) _ _ _ (c .before .before .before .before .before .next5 .given .1) (c .before .before .put-rest3 .ensures)
 
--- src/words.rt:104:1
 returns-6 : tie.Need-returns-6
 returns-6 c = end-unread (c .before .before .before .before .before .before .before .args .words .now) _ _ (c .before .before .before .before .enum-told .given .1) (c .before .before .put-rest4 .ensures)
 

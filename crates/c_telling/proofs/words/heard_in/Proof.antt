@@ -5,19 +5,15 @@ use native.Mathlib.Omega.{arith}
 use Rattle.c_telling.proofs.words.heard_in.Statement.{statement}
 use Rattle.c_telling.proofs.words.heard_in.Tie as tie
 
--- src/words.rt:57:9
 returns : tie.Need-returns
 returns c = heard-end _ (omega arith)
 
--- src/words.rt:60:9
 returns-2 : tie.Need-returns-2
 returns-2 c = heard-failed _ (omega arith) (omega arith)
 
--- src/words.rt:63:9
 returns-3 : tie.Need-returns-3
 returns-3 c = heard-none _ (omega arith) (omega arith) (omega arith)
 
--- src/words.rt:53:1
 returns-4 : tie.Need-returns-4
 returns-4 c = heard-bytes _ (omega arith) (omega arith) (omega arith)
 

@@ -5,7 +5,6 @@ use borrow.Author.Needs.{needs}
 use Rattle.c_telling.proofs.words.put_telling.Statement.{statement}
 use Rattle.c_telling.proofs.words.put_telling.Tie as tie
 
--- src/words.rt:95:1
 returns : tie.Need-returns
 returns c = let a = c .before .before .before .before .before .before .before .before .before .before .args in telling-stored (a .t) (a .words .now) _ _ _ (c .before .before .before .before .step-word .ensures) (c .before .before .before .before .before .before .before .pack .ensures) (c .before .before .put-rest .ensures)
 

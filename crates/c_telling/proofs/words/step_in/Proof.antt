@@ -5,19 +5,15 @@ use native.Mathlib.Omega.{arith}
 use Rattle.c_telling.proofs.words.step_in.Statement.{statement}
 use Rattle.c_telling.proofs.words.step_in.Tie as tie
 
--- src/words.rt:29:9
 returns : tie.Need-returns
 returns c = step-0 _ (omega arith)
 
--- src/words.rt:32:9
 returns-2 : tie.Need-returns-2
 returns-2 c = step-1 _ (omega arith) (omega arith)
 
--- src/words.rt:35:9
 returns-3 : tie.Need-returns-3
 returns-3 c = step-2 _ (omega arith) (omega arith) (omega arith)
 
--- src/words.rt:25:1
 returns-4 : tie.Need-returns-4
 returns-4 c = step-over _ (omega arith) (omega arith) (omega arith)
 
