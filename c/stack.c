@@ -1,23 +1,25 @@
 /* How many bytes of stack each call uses: it runs on a stack of its own that was filled with a pattern, and what is changed is counted.
- * Prints a line for each call, and fails where one uses more than 4 KB. */
+ * Prints a line for each call, and fails where one uses more than 4 KB; tell, which goes through all of them and the report, 9 KB. Linked with
+ * -z now, since the dynamic linker would else look for memcpy on the stack that is measured. */
 #include "welmocant.h"
 #include <stdio.h>
 #include <stdlib.h>
 #include <string.h>
 #include <ucontext.h>
 
-enum { ROOM = 1 << 16, MOST = 4096, PATTERN = 0xA5, N = 2000 };
-enum { NONE, HEAD, WHOLE, START, ADOPT, TAKE, TAKE_READING, CLOSE, CLOSE_READING, OPEN, PARENT, LEVEL, PIECE, CUT, SOLE, CALLS };
+enum { ROOM = 1 << 16, MOST = 4096, TELL_MOST = 9216, PATTERN = 0xA5, N = 2000, TOLD = 500, PART = 4096 };
+enum { NONE, HEAD, WHOLE, START, ADOPT, TAKE, TAKE_READING, CLOSE, CLOSE_READING, OPEN, PARENT, LEVEL, PIECE, CUT, SOLE, BEGIN, TELL, WRITE_LIST, LINK_AT, CALLS };
 
-static const char *names[CALLS] = {"none", "head", "whole", "start", "adopt", "take in Building", "take in Reading", "close in Building", "close in Reading", "open_reading", "parent", "level", "piece", "cut", "sole"};
+static const char *names[CALLS] = {"none", "head", "whole", "start", "adopt", "take in Building", "take in Reading", "close in Building", "close in Reading", "open_reading", "parent", "level", "piece", "cut", "sole", "begin", "tell", "write_list", "link_at"};
 static size_t used[CALLS];
 static unsigned char area[ROOM];
 static ucontext_t here, there;
 
 static uint32_t n, k, v, w, refusal, state[WELMOCANT_STATE], frag[WELMOCANT_FRAG_WORDS(N)], held[WELMOCANT_HELD_WORDS(N, WELMOCANT_ROOM_MOST)], parents[N];
+static uint32_t telling[WELMOCANT_TELLING], next, links[1 << 17];
 static uint64_t out;
-static uint8_t list[1 << 20], *block;
-static size_t bytes;
+static uint8_t list[1 << 20], *block, buffer[PART], written[1 << 20], text[WELMOCANT_TEXT_BYTES(TOLD)];
+static size_t bytes, count, heard;
 static int call;
 
 #define TABLES state, WELMOCANT_STATE, frag, WELMOCANT_FRAG_WORDS(n), held, WELMOCANT_HELD_WORDS(n, k)
@@ -36,6 +38,13 @@ static void run(void) {
     case PIECE: refusal = welmocant_piece(TABLES, v, &out); break;
     case CUT: refusal = welmocant_cut(TABLES, v, &out); break;
     case SOLE: refusal = welmocant_sole(TABLES, v, w, &out); break;
+    case BEGIN: refusal = welmocant_begin(k, telling, WELMOCANT_TELLING); break;
+    case TELL:
+        next = welmocant_tell(telling, WELMOCANT_TELLING, frag, WELMOCANT_FRAG_WORDS(n), held, WELMOCANT_HELD_WORDS(n, k), buffer, PART, text, sizeof text, heard);
+        refusal = telling[12];
+        break;
+    case WRITE_LIST: refusal = welmocant_write_list(n, links, count, written, sizeof written, &out); break;
+    case LINK_AT: refusal = welmocant_link_at(n, 0, block, bytes, 0, &v, &w, &out); break;
     default: break;
     }
 }
@@ -76,22 +85,28 @@ static size_t put(size_t at, uint32_t x) {
     return at;
 }
 
-/* A list of a kind (0 at random, 1 a chain first, 2 close together), from start to the questions, and its forest adopted. */
-static void course(int kind, uint32_t room, uint32_t links) {
+/* The links of a list of a kind (0 at random, 1 a chain first, 2 close together), from byte `at` of the list on. */
+static void fill(size_t at, int kind, uint32_t most) {
     static uint32_t seed = 7;
-    size_t end = 0;
-    n = N, k = room;
-    block = list;
-    for (uint32_t i = 0; i < links; i++) {
+    for (uint32_t i = 0; i < most; i++) {
         seed = seed * 1664525u + 1013904223u;
         uint32_t a = (seed >> 8) % n, b = (a + 1 + (seed >> 20) % (kind == 2 ? 40 : n - 1)) % n;
         if (kind == 1 && i + 1 < n) {
             a = i, b = i + 1;
         }
-        end = put(put(end, a), b);
+        links[2 * i] = a, links[2 * i + 1] = b;
+        at = put(put(at, a), b);
     }
-    bytes = end;
-    measure(WHOLE);
+    count = 2 * most;
+    bytes = at;
+    block = list;
+}
+
+/* From start to the questions, and its forest adopted. */
+static void course(int kind, uint32_t room, uint32_t most) {
+    n = N, k = room;
+    fill(0, kind, most);
+    measure(WHOLE), measure(WRITE_LIST), measure(LINK_AT);
     measure(START);
     do {
         measure(TAKE);
@@ -110,6 +125,22 @@ static void course(int kind, uint32_t room, uint32_t links) {
     measure(ADOPT);
 }
 
+/* A file told, from its head to the report. */
+static void tell_course(int kind, uint32_t room, uint32_t most) {
+    size_t at = 0;
+    n = TOLD, k = room;
+    fill(put(0, n), kind, most);
+    measure(BEGIN);
+    do {
+        size_t have = telling[10];
+        heard = bytes - at < PART - have ? bytes - at : PART - have;
+        memcpy(buffer + have, list + at, heard);
+        at += heard;
+        measure(TELL);
+        at = next == WELMOCANT_AGAIN ? 0 : at;
+    } while (next == WELMOCANT_GO_ON || next == WELMOCANT_AGAIN);
+}
+
 int main(void) {
     int bad = 0;
     bytes = put(0, WELMOCANT_FRAGMENTS_MOST);
@@ -117,11 +148,12 @@ int main(void) {
     measure(HEAD);
     for (int kind = 0; kind < 3; kind++) {
         course(kind, 1, 4000), course(kind, 4, 8000), course(kind, WELMOCANT_ROOM_MOST, 60000);
+        tell_course(kind, 1, 4000), tell_course(kind, 4, 8000), tell_course(kind, WELMOCANT_ROOM_MOST, 60000);
     }
     for (int i = 1; i < CALLS; i++) {
         size_t stack = used[i] - used[NONE];
         printf("%-18s %zu\n", names[i], stack);
-        bad |= stack > MOST;
+        bad |= stack > (i == TELL ? TELL_MOST : MOST);
     }
     return bad;
 }

@@ -3,3 +3,5 @@
 pub mod Steps
 pub mod Runs
 pub mod File
+pub mod Lists
+pub mod Tell

@@ -12,11 +12,16 @@ use Rattle.state.specs.Take.{takeCall}
 use Rattle.state.specs.Close.{openCall, closeCall}
 use Rattle.state.specs.Ask.{parentCall, levelCall, pieceCall, cutCall, soleCall}
 use Rattle.state.specs.Laws.KeepsBegun.{start-keeps, adopt-keeps}
-use Rattle.c_words.specs.State.{stateSize, Holds, markWord}
+use Rattle.c_words.specs.State.{stateSize, wordMost, Holds, markWord}
 use Rattle.c_calls.specs.Call.{numberOf, replyOf, nothing, itself, endingWord, cStart, cAdopt, cOpen, cTake, cClose, cParent, cLevel, cPiece, cCut, cSole}
-use Rattle.c_calls.specs.Run.{Follows, Begins, Step, Moment, Lent, HoldsAt, run, cRun}
+use Rattle.telling.specs.Tell.{beginning, tellCall}
+use Rattle.telling.specs.declared.Telling.{Telling}
+use Rattle.c_telling.specs.Telling.{tellingSize, heardIn, HoldsTelling}
+use Rattle.c_calls.specs.Tell.{cBegin, cTell}
+use Rattle.c_calls.specs.Run.{Follows, Begins, Step, Moment, Lent, HoldsAt, run, cRun, FollowsTell, Hearing, Teller, TellerLent, HoldsTeller, tellRun, cTellRun, SameCourse}
 use Rattle.c_calls.specs.File.{listHead, linksFrom}
 use Rattle.c_calls.specs.Laws.File.{file-parted}
+use Rattle.c_calls.specs.Laws.Tell.{begin-held, tell-held, tell-run-held}
 use Rattle.c_calls.specs.Laws.Runs.{begins-begins, open-held, take-held, close-held, asks-held, run-held}
 use Rattle.state.specs.declared.State.{State}
 
@@ -68,3 +73,16 @@ run-holds = run-held
 -- What a list file tells is its head and the links from there on; where the head is refused, the file is.
 pub head-of-file : (s : List ℕ) → fileLinks s ≡ andThen (listHead s) (linksFrom s)
 head-of-file = file-parted
+
+-- A telling through C is a telling: begun, the words hold it; from then on each call does what `telling::tell` does on the telling that they
+-- hold, and where it goes on they hold the one to go on with.
+pub begin-holds : (k : ℕ) (w : List ℕ) → tellingSize ≤ length w → k ≤ wordMost → HoldsTelling (cBegin k w .words) (beginning k)
+begin-holds = begin-held
+
+pub tell-follows : (w f h b text : List ℕ) (t : Telling) → HoldsTelling w t → (heard : ℕ) → FollowsTell (cTell w f h b text heard) (tellCall t f h b text (heardIn heard))
+tell-follows = tell-held
+
+-- Any number of such calls, each with a buffer, a text and what was heard, from words that hold a telling: the C calls wait or stop where those of
+-- crate `telling` do.
+pub tell-run-holds : (xs : List Hearing) (l : TellerLent) (m : Teller) → HoldsTeller l m → SameCourse (cTellRun xs l) (tellRun xs m)
+tell-run-holds = tell-run-held

@@ -1,4 +1,5 @@
 pub mod State
+pub mod Pair
 pub mod Answers
 pub mod Laws
 pub mod Unique

@@ -70,3 +70,11 @@ stateWords s w = pick (ltb (length w) stateSize) w (stateList s ++ drop stateSiz
 pub record Holds (w : List ℕ) (s : State) : Type 0 where
   pub long : stateSize ≤ length w
   pub reads : (other : Stage) → stateIn other w ≡ s
+
+-- No number of a state is more than a word holds.
+pub record Fits (s : State) : Type 0 where
+  pub n-fits : s .n ≤ wordMost
+  pub k-fits : s .k ≤ wordMost
+  pub passes-fit : s .passes ≤ wordMost
+  pub entries-fit : s .entries ≤ wordMost
+  pub held-fits : s .held ≤ wordMost

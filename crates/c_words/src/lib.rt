@@ -5,9 +5,15 @@ pub use answers::end_open;
 pub use answers::end_take;
 pub use answers::judge;
 pub use answers::tell;
+pub use pairs::high;
+pub use pairs::joined;
+pub use pairs::low;
 pub use words::STATE;
+pub use words::pack;
 pub use words::unpack;
 pub use words::wide;
+pub use words::word;
 
 mod answers;
+mod pairs;
 mod words;

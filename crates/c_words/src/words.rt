@@ -17,13 +17,19 @@ pub fn wide(word: u32) -> usize
 }
 
 // A word that is not there is read as 0.
-fn word_at(words: &[u32], i: usize) -> usize
+pub fn word(words: &[u32], i: usize) -> u32
     ensures { λ r. ⌜ r ≡ getD (now (words .entry)) i 0 ⌝ }
 {
     if i < words.len() {
-        return wide(words[i]);
+        return words[i];
     }
     0
+}
+
+fn word_at(words: &[u32], i: usize) -> usize
+    ensures { λ r. ⌜ r ≡ getD (now (words .entry)) i 0 ⌝ }
+{
+    wide(word(words, i))
 }
 
 fn stage_in(other: Stage, word: usize) -> Stage
@@ -98,7 +104,7 @@ fn word_for(x: usize) -> u32
 }
 
 // Writes a state into an array of words; one too short stays as it is.
-pub(crate) fn pack(s: State, words: &mut [u32])
+pub fn pack(s: State, words: &mut [u32])
     ensures { λ _. ⌜ now (words .exit) ≡ stateWords s (now (words .entry)) ⌝ }
 {
     if words.len() < STATE {

@@ -17,19 +17,11 @@ use Rattle.state.specs.Laws.Keeps.{Passes, head-passes}
 use Rattle.state.specs.declared.State.{State}
 use Rattle.state.specs.declared.Stage.{Stage}
 use Rattle.state.specs.declared.Stage.the-variants.{Building, Built, Reading, Read}
-use Rattle.c_words.specs.State.{stateSize, stageIn, stateIn, stageWord, markWord, wordMost, wordFor, stateList, stateWords, Holds}
+use Rattle.c_words.specs.State.{stateSize, stageIn, stateIn, stageWord, markWord, wordFor, stateList, stateWords, Holds, Fits}
 use Rattle.c_words.specs.Laws.Steps.{word-fits, entries-good, state-in}
 
--- No number of a state is more than a word holds.
-record Fits (s : State) : Type 0 where
-  n-fits : s .n ≤ wordMost
-  k-fits : s .k ≤ wordMost
-  passes-fit : s .passes ≤ wordMost
-  entries-fit : s .entries ≤ wordMost
-  held-fits : s .held ≤ wordMost
-
 -- 'n: 1 to 32,768. Room k: 1 to 64. Entries in one pass: at most 16,777,215'; no more held links than k·n, no more passes than fragments and one.
-passed-fits : (s : State) (f h : List ℕ) → Passes s f h → Fits s
+pub passed-fits : (s : State) (f h : List ℕ) → Passes s f h → Fits s
 passed-fits s f h P =
     let H = head-passes (λ g. true) s f h P tt in
     let b = H .bounds in
@@ -58,16 +50,20 @@ mark-small : (b : Bool) → markWord b ≤ 1
 mark-small true = omega arith
 mark-small false = omega arith
 
-written : (s : State) (w : List ℕ) → stateSize ≤ length w → stateWords s w ≡ stateList s ++ drop stateSize w
+pub written : (s : State) (w : List ℕ) → stateSize ≤ length w → stateWords s w ≡ stateList s ++ drop stateSize w
 unfolding stateWords
 written s w l = simp tests
 
-written-back : (s : State) (w : List ℕ) → Fits s → (other : Stage) → s ≡ stateIn other (stateList s ++ drop stateSize w)
-written-back s w F other =
-    state-in other (stateList s ++ drop stateSize w) s (stageWord (s .stage)) (wordFor (s .entries)) (markWord (s .crossed)) refl refl refl
+list-back : (s : State) (rest : List ℕ) → Fits s → (other : Stage) → s ≡ stateIn other (stateList s ++ rest)
+list-back s rest F other =
+    state-in other (stateList s ++ rest) s (stageWord (s .stage)) (wordFor (s .entries)) (markWord (s .crossed)) refl refl refl
     (word-fits (s .n) (F .n-fits)) (word-fits (s .k) (F .k-fits)) (stage-back other (s .stage)) (word-fits (s .passes) (F .passes-fit))
     (entries-good (wordFor (s .entries)) (markWord (s .crossed)) (s .entries) (mark-small (s .crossed)) (word-fits (s .entries) (F .entries-fit)))
     (word-fits (s .held) (F .held-fits)) (mark-back (s .crossed))
 
+-- Whatever words stand behind those of the state.
+pub list-holds : (s : State) (rest : List ℕ) → Fits s → Holds (stateList s ++ rest) s
+list-holds s rest F = record { long = omega arith; reads = λ other. sym (list-back s rest F other) }
+
 pub passed-holds : (s : State) (w f h : List ℕ) → stateSize ≤ length w → Passes s f h → Holds (stateWords s w) s
-passed-holds s w f h l P = rw (written s w l) (record { long = omega arith; reads = λ other. sym (written-back s w (passed-fits s f h P) other) })
+passed-holds s w f h l P = rw (written s w l) (list-holds s (drop stateSize w) (passed-fits s f h P))

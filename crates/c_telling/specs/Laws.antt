@@ -1,0 +1,5 @@
+-- Laws about the definitions, and the lemmas that the proofs of the code rest on.
+-- Assumes nothing.
+pub mod Steps
+pub mod Holds
+pub mod Fits
