@@ -93,6 +93,42 @@ uint32_t welmocant_piece(const uint32_t *state, size_t states, const uint32_t *f
 uint32_t welmocant_cut(const uint32_t *state, size_t states, uint32_t *frag, size_t frags, const uint32_t *held, size_t helds, uint32_t v, uint64_t *answer);
 uint32_t welmocant_sole(const uint32_t *state, size_t states, const uint32_t *frag, size_t frags, const uint32_t *held, size_t helds, uint32_t a, uint32_t b, uint64_t *answer);
 
+/* Telling a list file: what was read is told, and the answer says what to do next. A telling is WELMOCANT_TELLING words: the first
+ * WELMOCANT_STATE are the state (for the questions, once it is Read); then 7 the step (0 nothing read, 1 at the head of a pass, 2 in
+ * its links, 3 over), 8 and 9 the byte of the file at the buffer's front or, where refused, the place (low word, high word), 10 and 11
+ * how many bytes stand at the buffer's front (the next read goes behind them) or, where something is to be printed, how many bytes of
+ * the text, 12 the number of the refusal. */
+#define WELMOCANT_TELLING 13
+
+/* What was heard: how many bytes were read (0 is the end of the file), or one of these. */
+#define WELMOCANT_READ_FAILED ((size_t)-1)
+#define WELMOCANT_NO_FILE ((size_t)-2)
+
+enum {
+    WELMOCANT_GO_ON = 0,   /* read more, behind the bytes at the buffer's front */
+    WELMOCANT_AGAIN = 1,   /* read again, from the start of the file */
+    WELMOCANT_REPORT = 2,  /* print so many bytes of the text: the report; over */
+    WELMOCANT_REFUSED = 3, /* the same: `refused R at P`; over */
+    WELMOCANT_ABSENT = 4,  /* the same: `no file`; over */
+    WELMOCANT_UNREAD = 5   /* a read failed: nothing is to be printed; over */
+};
+
+/* Bytes of text that are enough for every report on n fragments, and for every other line. */
+#define WELMOCANT_TEXT(n) ((size_t)256 + (size_t)80 * (size_t)(n))
+
+/* A telling of nothing yet, with room k. */
+uint32_t welmocant_begin(uint32_t k, uint32_t *telling, size_t tellings);
+
+/* Tells what was heard, and answers what to do next (enum above; a refusal is in the telling). The buffer has room for 6 bytes at least; the
+ * tables are lent for the n that welmocant_head finds in the first bytes read, and may be empty where it refuses them. */
+uint32_t welmocant_tell(uint32_t *telling, size_t tellings, uint32_t *frag, size_t frags, uint32_t *held, size_t helds, uint8_t *buffer, size_t bytes, uint8_t *text, size_t texts, size_t heard);
+
+/* Writes a list: n, then the links, two words each. Accepted, *size is the bytes written. */
+uint32_t welmocant_write_list(uint32_t n, const uint32_t *words, size_t count, uint8_t *buffer, size_t bytes, uint64_t *size);
+
+/* The link at byte `at` of a block, of which `entries` were read before: its two ends, and the byte behind it. Refused, *next is the place. */
+uint32_t welmocant_link_at(uint32_t n, uint32_t entries, const uint8_t *block, size_t bytes, size_t at, uint32_t *a, uint32_t *b, uint64_t *next);
+
 #ifdef __cplusplus
 }
 #endif
