@@ -57,7 +57,18 @@ fn help_and_manual() {
 fn not_understood() {
     let folder = Folder::new();
     folder.put("links.sev", &SQUARE);
-    for arguments in [&[][..], &["repair"], &["report"], &["report", "links.sev", "another"], &["report", "links.sev", "--room"], &["report", "links.sev", "--room", "-1"], &["report", "links.sev", "--room", "four"], &["report", "links.sev", "--soles"], &["unpack"], &["pack", "--fragments", "x"]] {
+    for arguments in [
+        &[][..],
+        &["repair"],
+        &["report"],
+        &["report", "links.sev", "another"],
+        &["report", "links.sev", "--room"],
+        &["report", "links.sev", "--room", "-1"],
+        &["report", "links.sev", "--room", "four"],
+        &["report", "links.sev", "--soles"],
+        &["unpack"],
+        &["pack", "--fragments", "x"],
+    ] {
         let ran = folder.run(arguments);
         assert_eq!((ran.status, ran.text()), (Some(4), ""), "{arguments:?}");
         assert!(ran.err.contains("Usage:") || ran.err.contains("--help"), "{}", ran.err);
