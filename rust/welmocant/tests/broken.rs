@@ -9,6 +9,7 @@ use std::fs;
 use std::io::{Read, Write};
 use std::os::unix::fs::PermissionsExt;
 use std::os::unix::process::{CommandExt, ExitStatusExt};
+use std::path::Path;
 use std::process::{Child, Command, Stdio};
 use std::time::{Duration, Instant};
 use welmocant::plain::Link;
@@ -80,7 +81,8 @@ fn files_that_are_none() {
     folder.run(&["pack", "pipe"]).says(3, &["is a pipe"]);
     folder.run(&["pack", "/proc/self/mem"]).says(3, &["could not be read to the end"]);
     let mut piped = folder.call(&["report", "/dev/stdin"]).stdin(Stdio::piped()).stdout(Stdio::piped()).stderr(Stdio::piped()).spawn().unwrap();
-    piped.stdin.take().unwrap().write_all(&SQUARE).unwrap();
+    // It may have ended before it is told anything.
+    let _ = piped.stdin.take().unwrap().write_all(&SQUARE);
     Ran::of(piped.wait_with_output().unwrap()).says(3, &["cannot be read more than once"]);
 }
 
@@ -92,7 +94,7 @@ fn unreadable() {
     fs::set_permissions(&list, fs::Permissions::from_mode(0o000)).unwrap();
     fs::set_permissions(&folder.0, fs::Permissions::from_mode(0o755)).unwrap();
     let program = folder.path("program");
-    fs::copy(env!("CARGO_BIN_EXE_welmocant"), &program).unwrap();
+    assert!(Command::new("cp").args([Path::new(env!("CARGO_BIN_EXE_welmocant")), &program]).status().unwrap().success());
     for arguments in [&["report", "links.sev"][..], &["unpack", "links.sev"], &["pack", "links.sev"], &["pack", "/dev/null", "--fragments", "3", "-o", "/proc/new"]] {
         let mut command = Command::new(&program);
         command.args(arguments).current_dir(&folder.0);

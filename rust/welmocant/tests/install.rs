@@ -2,7 +2,7 @@
 
 mod common;
 
-use common::{Folder, Ran};
+use common::{executable, Folder, Ran};
 use std::fs;
 use std::os::unix::fs::PermissionsExt;
 use std::path::Path;
@@ -20,7 +20,7 @@ impl Stand {
         for file in ["install", "rust/welmocant/packages", "rust/welmocant/welmocant.1"] {
             let to = stand.0.path(file);
             fs::create_dir_all(to.parent().unwrap()).unwrap();
-            fs::copy(root.join(file), to).unwrap();
+            assert!(Command::new("cp").args([&root.join(file), &to]).status().unwrap().success());
         }
         fs::create_dir(stand.0.path("path")).unwrap();
         for tool in TOOLS {
@@ -38,9 +38,7 @@ impl Stand {
     }
 
     fn tool(&self, name: &str, text: &str) {
-        let at = self.0.path("path").join(name);
-        fs::write(&at, format!("#!/bin/sh\n{text}\n")).unwrap();
-        fs::set_permissions(&at, fs::Permissions::from_mode(0o755)).unwrap();
+        executable(&self.0.path("path").join(name), text);
     }
 
     fn gone(&self, name: &str) {

@@ -3,7 +3,7 @@
 mod common;
 
 use common::lists::{list, Dice};
-use common::{by_removal, expected, file, found, passes_of, Folder, Ran, SQUARE, SQUARE_LINES};
+use common::{by_removal, executable, expected, file, found, passes_of, Folder, Ran, SQUARE, SQUARE_LINES};
 use serde_json::Value;
 use std::process::Command;
 use welmocant::plain::Link;
@@ -165,12 +165,8 @@ fn no_graphviz() {
     with_path("").says(5, &["Graphviz", "graphviz"]);
     let tools = folder.path("tools");
     std::fs::create_dir(&tools).unwrap();
-    let dot = |text: &str| {
-        std::fs::write(tools.join("dot"), format!("#!/bin/sh\n{text}\n")).unwrap();
-        std::fs::set_permissions(tools.join("dot"), std::os::unix::fs::PermissionsExt::from_mode(0o755)).unwrap();
-    };
     for (text, words) in [("exit 7", "it said nothing"), ("[ \"$1\" = -V ] || { echo no font >&2; exit 1; }", "no font"), ("[ \"$1\" = -V ] || echo '<svg'", "Graphviz failed"), ("[ \"$1\" = -V ] || kill -9 $$", "Graphviz failed")] {
-        dot(text);
+        executable(&tools.join("dot"), text);
         let ran = with_path(tools.to_str().unwrap());
         assert_eq!(ran.status, Some(5), "{text}");
         assert!(ran.err.contains(words) && ran.err.lines().count() == 1, "{text}: {}", ran.err);

@@ -63,6 +63,13 @@ impl Drop for Folder {
     }
 }
 
+/// A script that can be called. Another process writes it: while this one has a file open for writing, a process that another test begins may have
+/// it too, and then it cannot be called.
+pub fn executable(path: &Path, text: &str) {
+    let written = Command::new("sh").args(["-c", "printf '#!/bin/sh\\n%s\\n' \"$2\" >\"$1\" && chmod 755 \"$1\"", "sh"]).arg(path).arg(text).status().unwrap();
+    assert!(written.success());
+}
+
 /// Status, standard output and standard error.
 #[derive(Debug, PartialEq, Eq)]
 pub struct Ran {
