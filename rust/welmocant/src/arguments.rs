@@ -115,7 +115,7 @@ fn unpack() -> Command {
         .about("Write a list of links as lines of text")
         .long_about(UNPACK)
         .after_long_help(STATUSES)
-        .arg(path("LIST").required(true).help("The list of links"))
+        .arg(path("LIST").required(true).help("The list of links; - is standard input"))
         .arg(path("output").short('o').long("output").value_name("LINES").help("The file to write, whole or not at all; standard output where it is left out"))
 }
 

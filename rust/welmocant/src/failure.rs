@@ -51,10 +51,10 @@ impl Failure {
     }
 }
 
-/// The name of a file in a sentence; an empty one can be seen.
+/// The name of a file in a sentence: an empty one can be seen, and none can end the line or move on the terminal.
 pub fn name(file: &Path) -> String {
     if file.as_os_str().is_empty() {
         return "''".into();
     }
-    file.to_string_lossy().into_owned()
+    file.to_string_lossy().chars().map(|c| if c.is_control() { '?' } else { c }).collect()
 }

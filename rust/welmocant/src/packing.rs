@@ -5,7 +5,6 @@ use crate::output::Output;
 use crate::refusals::{meaning, refused, sentence};
 use crate::telling::{filled, not_opened, opened, refuse_folder, unread, BLOCK};
 use std::fmt::Write;
-use std::fs::File;
 use std::io::{self, BufRead, BufReader, Read};
 use std::os::unix::fs::FileTypeExt;
 use std::path::Path;
@@ -16,35 +15,47 @@ const FRAGMENTS_MOST: u32 = 32_768;
 /// Bytes of the longest line, so that a file which is no text does not fill the memory.
 const LINE_MOST: u64 = 4096;
 
-/// Where lines come from: `None` or `-` is standard input.
-struct Source<'a> {
-    file: Option<&'a Path>,
-    reader: Box<dyn BufRead>,
+/// A file that is read once; `-` is standard input.
+fn readable(path: &Path) -> Result<Box<dyn Read>, Failure> {
+    if path == Path::new("-") {
+        return Ok(Box::new(io::stdin()));
+    }
+    let file = opened(path).map_err(|error| not_opened(path, &error))?;
+    refuse_folder(&file, path)?;
+    match file.metadata().map(|about| about.file_type()) {
+        Ok(kind) if kind.is_fifo() || kind.is_socket() => Err(Failure::of_file(BROKEN, path, "this is a pipe. Give it as standard input, with - for the file, or save it in a file first")),
+        _ => Ok(Box::new(file)),
+    }
+}
+
+/// The name of such a file in a sentence.
+fn named(path: &Path) -> &Path {
+    if path == Path::new("-") {
+        return Path::new("standard input");
+    }
+    path
+}
+
+/// Lines, by their number.
+struct Lines<'a> {
+    name: &'a Path,
+    reader: BufReader<Box<dyn Read>>,
     number: usize,
 }
 
-impl<'a> Source<'a> {
-    fn new(file: Option<&'a Path>) -> Result<Self, Failure> {
-        let file = file.filter(|path| *path != Path::new("-"));
-        let reader: Box<dyn BufRead> = match file {
-            Some(path) => Box::new(BufReader::with_capacity(BLOCK, readable(path)?)),
-            None => Box::new(BufReader::with_capacity(BLOCK, io::stdin())),
-        };
-        Ok(Source { file, reader, number: 0 })
+impl<'a> Lines<'a> {
+    fn new(path: &'a Path) -> Result<Self, Failure> {
+        Ok(Lines { name: named(path), reader: BufReader::with_capacity(BLOCK, readable(path)?), number: 0 })
     }
 
     fn wrong(&self, why: &str) -> Failure {
-        Failure::of_file(REFUSED, self.name(), format_args!("line {}: {why}", self.number))
-    }
-
-    fn name(&self) -> &'a Path {
-        self.file.unwrap_or(Path::new("standard input"))
+        Failure::of_file(REFUSED, self.name, format_args!("line {}: {why}", self.number))
     }
 
     /// The next line without its end, in `line`; false where there is none.
     fn next(&mut self, line: &mut Vec<u8>) -> Result<bool, Failure> {
         line.clear();
-        let count = self.reader.by_ref().take(LINE_MOST + 1).read_until(b'\n', line).map_err(|error| unread(self.name(), &error))?;
+        let count = self.reader.by_ref().take(LINE_MOST + 1).read_until(b'\n', line).map_err(|error| unread(self.name, &error))?;
         self.number += 1;
         if count as u64 > LINE_MOST {
             return Err(self.wrong("the line is longer than 4,096 bytes"));
@@ -53,16 +64,6 @@ impl<'a> Source<'a> {
             line.pop();
         }
         Ok(count > 0)
-    }
-}
-
-/// A file that is read once. A pipe by name is not waited for.
-fn readable(path: &Path) -> Result<File, Failure> {
-    let file = opened(path).map_err(|error| not_opened(path, &error))?;
-    refuse_folder(&file, path)?;
-    match file.metadata().map(|about| about.file_type()) {
-        Ok(kind) if kind.is_fifo() || kind.is_socket() => Err(Failure::of_file(BROKEN, path, "this is a pipe. Save what comes from it in a file first")),
-        _ => Ok(file),
     }
 }
 
@@ -79,7 +80,7 @@ pub fn pack(lines: Option<&Path>, list: Option<&Path>, fragments: Option<u32>) -
     if let Some(n) = fragments {
         header(n).map_err(|refusal| Failure::new(REFUSED, format_args!("--fragments {n}: {}", sentence(refusal))))?;
     }
-    let mut source = Source::new(lines)?;
+    let mut source = Lines::new(lines.unwrap_or(Path::new("-")))?;
     let mut output = Output::to(list)?;
     let mut packed = Packed { fragments, largest: None, links: Vec::new(), entries: 0 };
     let mut line = Vec::new();
@@ -89,15 +90,15 @@ pub fn pack(lines: Option<&Path>, list: Option<&Path>, fragments: Option<u32>) -
     let n = match (packed.fragments, packed.largest) {
         (Some(n), _) => n,
         (None, Some(largest)) => largest + 1,
-        (None, None) => return Err(Failure::of_file(REFUSED, source.name(), "there are no links. Say with --fragments how many fragments the list has")),
+        (None, None) => return Err(Failure::of_file(REFUSED, source.name, "there are no links. Say with --fragments how many fragments the list has")),
     };
-    output.write(&header(n).map_err(|refusal| refused(source.name(), refusal))?)?;
+    output.write(&header(n).map_err(|refusal| refused(source.name, refusal))?)?;
     output.write(&packed.links)?;
     output.finish()
 }
 
 impl Packed {
-    fn add(&mut self, source: &Source, line: &[u8]) -> Result<(), Failure> {
+    fn add(&mut self, source: &Lines, line: &[u8]) -> Result<(), Failure> {
         let words: Vec<&[u8]> = line.split(|byte| matches!(byte, b' ' | b'\t')).filter(|word| !word.is_empty()).collect();
         match words[..] {
             [] => Ok(()),
@@ -130,7 +131,7 @@ impl Packed {
         Ok(())
     }
 
-    fn refused(&self, source: &Source, refusal: Refusal) -> Failure {
+    fn refused(&self, source: &Lines, refusal: Refusal) -> Failure {
         let (wrong, help) = meaning(refusal.number);
         source.wrong(&format!("refused {}: {wrong}. {help}.", refusal.number))
     }
@@ -152,7 +153,7 @@ fn number(word: &[u8]) -> Option<u32> {
 pub fn unpack(list: &Path, lines: Option<&Path>) -> Result<(), Failure> {
     let mut file = readable(list)?;
     let mut output = Output::to(lines)?;
-    let (n, links) = links_of(&mut file, list)?;
+    let (n, links) = links_of(&mut file, named(list))?;
     let mut text = format!("# fragments {n}\n");
     for (a, b) in links {
         let _ = writeln!(text, "{a} {b}");
@@ -166,7 +167,7 @@ pub fn unpack(list: &Path, lines: Option<&Path>) -> Result<(), Failure> {
 }
 
 /// The number of fragments and the links, block by block. A fragment's number is at most 32,767.
-fn links_of(file: &mut File, path: &Path) -> Result<(u32, Vec<(u16, u16)>), Failure> {
+fn links_of(file: &mut impl Read, path: &Path) -> Result<(u32, Vec<(u16, u16)>), Failure> {
     let mut buffer = vec![0; BLOCK];
     let mut fill = |part: &mut [u8]| filled(file, part).map_err(|error| unread(path, &error));
     let mut have = fill(&mut buffer)?;

@@ -112,6 +112,7 @@ fn target_of(asked: &Path) -> Result<PathBuf, Failure> {
         }
         Ok(there) if there.is_dir() => Err(no("this is a folder; give the name of a file")),
         Ok(there) if !there.is_file() => Err(no("this is no file that could be replaced; leave it out to write to standard output")),
+        Ok(_) if OpenOptions::new().write(true).open(asked).is_err() => Err(no("this file may not be written")),
         _ => {
             let file = asked.file_name().ok_or_else(|| no("this is no name of a file"))?;
             let folder = asked.parent().filter(|folder| !folder.as_os_str().is_empty()).unwrap_or(Path::new("."));

@@ -67,6 +67,7 @@ fn files_that_are_none() {
             ("another.sev", 2, "another.sev: there is no such file"),
             ("", 2, "'': there is no such file"),
             ("links.sev/x", 2, "no such file"),
+            ("two\nlines \u{1b}[2J", 2, "two?lines ?[2J: there is no such file"),
             ("folder", 3, "folder: this is a folder"),
             ("pipe", 3, "pipe"),
             ("/dev/null", 1, "refused 8 at byte 0"),
@@ -86,7 +87,7 @@ fn files_that_are_none() {
     Ran::of(piped.wait_with_output().unwrap()).says(3, &["cannot be read more than once"]);
 }
 
-/// A file that may not be read. Root may read all, so the program is then called as somebody else.
+/// Files that may not be read or written. Root may do all, so the program is then called as somebody else.
 #[test]
 fn unreadable() {
     let folder = Folder::new();
@@ -95,15 +96,27 @@ fn unreadable() {
     fs::set_permissions(&folder.0, fs::Permissions::from_mode(0o755)).unwrap();
     let program = folder.path("program");
     assert!(Command::new("cp").args([Path::new(env!("CARGO_BIN_EXE_welmocant")), &program]).status().unwrap().success());
-    for arguments in [&["report", "links.sev"][..], &["unpack", "links.sev"], &["pack", "links.sev"], &["pack", "/dev/null", "--fragments", "3", "-o", "/proc/new"]] {
+    let (home, old) = (folder.path("home"), folder.path("home/old"));
+    fs::create_dir(&home).unwrap();
+    fs::write(&old, "old").unwrap();
+    fs::set_permissions(&old, fs::Permissions::from_mode(0o444)).unwrap();
+    fs::set_permissions(&home, fs::Permissions::from_mode(0o777)).unwrap();
+    for (arguments, word) in [
+        (&["report", "links.sev"][..], "Permission denied"),
+        (&["unpack", "links.sev"], "Permission denied"),
+        (&["pack", "links.sev"], "Permission denied"),
+        (&["pack", "/dev/null", "--fragments", "3", "-o", "/proc/new"], "no file can be made there"),
+        (&["pack", "/dev/null", "--fragments", "3", "-o", "home/old"], "home/old: this file may not be written"),
+    ] {
         let mut command = Command::new(&program);
         command.args(arguments).current_dir(&folder.0);
         if fs::read(&list).is_ok() {
             command.uid(65_534).gid(65_534);
         }
-        let word = if arguments.len() > 2 { "no file can be made there" } else { "Permission denied" };
         Ran::of(command.output().unwrap()).says(3, &[word]);
     }
+    assert_eq!(fs::read(&old).unwrap(), b"old");
+    assert_eq!(fs::read_dir(&home).unwrap().count(), 1);
 }
 
 /// Reads of a few bytes, and reads that a signal interrupts, give the same report as whole ones.

@@ -11,7 +11,11 @@ use welmocant::plain::Link;
 
 /// `pack` with these lines on standard input.
 fn packed(folder: &Folder, lines: &[u8], options: &[&str]) -> Ran {
-    let mut run = folder.call(&[&["pack"], options].concat()).stdin(Stdio::piped()).stdout(Stdio::piped()).stderr(Stdio::piped()).spawn().unwrap();
+    fed(folder, lines, &[&["pack"], options].concat())
+}
+
+fn fed(folder: &Folder, lines: &[u8], arguments: &[&str]) -> Ran {
+    let mut run = folder.call(arguments).stdin(Stdio::piped()).stdout(Stdio::piped()).stderr(Stdio::piped()).spawn().unwrap();
     // A run that is refused may not read to the end.
     let _ = run.stdin.take().unwrap().write_all(lines);
     Ran::of(run.wait_with_output().unwrap())
@@ -30,6 +34,8 @@ fn lines_and_lists() {
     assert_eq!(folder.run(&["unpack", "links.sev"]).done(), lines);
     assert_eq!(bytes(packed(&folder, lines.as_bytes(), &[])), SQUARE);
     assert_eq!(bytes(packed(&folder, lines.as_bytes(), &["-"])), SQUARE);
+    assert_eq!(fed(&folder, &SQUARE, &["unpack", "-"]).done(), lines);
+    fed(&folder, &SQUARE[..8], &["unpack", "-"]).says(1, &["standard input: refused 8 at byte 7: "]);
     folder.put("lines", lines.as_bytes());
     assert_eq!(bytes(folder.run(&["pack", "lines"])), SQUARE);
     folder.run(&["pack", "lines", "-o", "again.sev"]).done();
