@@ -30,9 +30,11 @@ impl Progress {
             return;
         }
         self.bar.inc(bytes as u64);
-        let placed = telling.placed();
         self.bar.set_prefix(format!("pass {}", telling.passes() + 1));
-        self.bar.set_message(format!("{placed} of {} fragments placed", self.fragments));
+        self.bar.set_message(match telling.placed() {
+            all if all == self.fragments as usize => "all fragments placed, this pass is the last".to_string(),
+            placed => format!("{placed} of {} fragments placed", self.fragments),
+        });
     }
 
     /// The file is read from its start again.

@@ -35,3 +35,11 @@ pub fn sentence(refusal: Refusal) -> String {
 pub fn refused(file: &Path, refusal: Refusal) -> Failure {
     Failure::of_file(REFUSED, file, sentence(refusal))
 }
+
+/// Each of the twelve has a sentence of its own, and says what to do.
+#[test]
+fn every_number() {
+    let sentences: std::collections::HashSet<String> = (1..=12).map(|number| sentence(Refusal { number, place: 0 })).collect();
+    assert_eq!(sentences.len(), 12);
+    assert!((1..=12).all(|number| meaning(number).0 != meaning(13).0 && !meaning(number).1.is_empty()));
+}

@@ -303,7 +303,7 @@ fn unfinished(folder: &Folder) {
 fn signals() {
     let folder = Folder::new();
     folder.put("list", b"old");
-    folder.put("links.sev", &file(1_000, &(0..2_000_000).map(|i| (i % 999, 999)).collect::<Vec<Link>>()));
+    folder.put("links.sev", &SQUARE);
     for (name, number) in [("-INT", 2), ("-TERM", 15), ("-HUP", 1)] {
         let mut pack = folder.call(&["pack", "-o", "list"]).stdin(Stdio::piped()).spawn().unwrap();
         pack.stdin.as_mut().unwrap().write_all(b"0 1\n").unwrap();
@@ -312,12 +312,17 @@ fn signals() {
         assert_eq!(pack.wait().unwrap().signal(), Some(number));
         assert_eq!((folder.names(), fs::read(folder.path("list")).unwrap()), (vec!["links.sev".to_string(), "list".into()], b"old".to_vec()));
     }
-    if Command::new("dot").arg("-V").output().is_ok() {
-        let mut report = folder.call(&["report", "links.sev", "--picture", "a.svg"]).stdout(Stdio::piped()).spawn().unwrap();
+    // A disk that never answers, while the picture's file is there.
+    let disk = Disk::new();
+    for arguments in [&["report", "links.sev", "--picture", "a.svg"][..], &["unpack", "links.sev", "-o", "list"]] {
+        if arguments[0] == "report" && Command::new("dot").arg("-V").output().is_err() {
+            continue;
+        }
+        let mut run = folder.call_on(&disk, "links.sev", &[("WELMOCANT_WAIT", "1")], arguments).stdout(Stdio::piped()).spawn().unwrap();
         unfinished(&folder);
-        signal(&report, "-INT");
-        assert_eq!(report.wait().unwrap().signal(), Some(2));
-        assert_eq!(folder.names(), ["links.sev", "list"]);
+        signal(&run, "-INT");
+        assert_eq!(run.wait().unwrap().signal(), Some(2));
+        assert_eq!((folder.names(), fs::read(folder.path("list")).unwrap()), (vec!["links.sev".to_string(), "list".into()], b"old".to_vec()));
     }
     // Where the signal was ignored before, it still is.
     let script = "trap '' INT; exec \"$0\" pack -o list";

@@ -50,10 +50,14 @@ impl Folder {
     }
 
     /// The same with another disk below one file; `told` are the variables that it obeys.
-    pub fn on_disk(&self, disk: &Disk, file: &str, told: &[(&str, &str)], arguments: &[&str]) -> Ran {
+    pub fn call_on(&self, disk: &Disk, file: &str, told: &[(&str, &str)], arguments: &[&str]) -> Command {
         let mut command = self.call(arguments);
-        command.env("LD_PRELOAD", &disk.library).env("WELMOCANT_FILE", self.path(file));
-        Ran::of(command.envs(told.iter().copied()).output().unwrap())
+        command.env("LD_PRELOAD", &disk.library).env("WELMOCANT_FILE", self.path(file)).envs(told.iter().copied());
+        command
+    }
+
+    pub fn on_disk(&self, disk: &Disk, file: &str, told: &[(&str, &str)], arguments: &[&str]) -> Ran {
+        Ran::of(self.call_on(disk, file, told, arguments).output().unwrap())
     }
 }
 

@@ -48,6 +48,9 @@ ssize_t read(int fd, void *buffer, size_t count) {
     off_t at = syscall(SYS_lseek, fd, 0, SEEK_CUR);
     long fail = pass >= told("WELMOCANT_FAIL_PASS", 1) ? told("WELMOCANT_FAIL", LONG_MAX) : LONG_MAX, most = told("WELMOCANT_CUT", LONG_MAX);
     calls++;
+    while (getenv("WELMOCANT_WAIT") != NULL) {
+        pause();
+    }
     if (getenv("WELMOCANT_INTERRUPT") != NULL && calls % 2 == 1) {
         errno = EINTR;
         return -1;
