@@ -1,9 +1,9 @@
 /* A depth-first forest over a list of links that is told in blocks, again and again, in little room.
  *
  * Every function is proved: it ends, touches nothing but what is lent to it, and does what document 01 says for every input. But for
- * welmocant_whole, it answers the number of a refusal (enum below), 0 where the call is accepted. A refused call changes no lent word but
- * the last argument (welmocant_head: the last two), with one exception: WELMOCANT_FALSE of welmocant_close also clears the notes and goes
- * back to Built.
+ * welmocant_whole and welmocant_tell, it answers the number of a refusal (enum below), 0 where the call is accepted. A refused call changes
+ * no lent word but the last argument (welmocant_head: the last two, welmocant_link_at: the last three), with one exception: WELMOCANT_FALSE
+ * of welmocant_close also clears the notes and goes back to Built.
  *
  * What is lent
  *   state: WELMOCANT_STATE words: n, k, stage (0 Building, 1 Built, 2 Reading, 3 Read), passes, entries, held links, false mark.
