@@ -1,9 +1,9 @@
 /* A depth-first forest over a list of links that is told in blocks, again and again, in little room.
  *
  * Every function is proved: it ends, touches nothing but what is lent to it, and does what document 01 says for every input. But for
- * welmocant_whole and welmocant_tell, it answers the number of a refusal (enum below), 0 where the call is accepted. A refused call changes
- * no lent word but the last argument (welmocant_head: the last two, welmocant_link_at: the last three), with one exception: WELMOCANT_FALSE
- * of welmocant_close also clears the notes and goes back to Built.
+ * welmocant_whole and welmocant_tell, it answers the number of a refusal (enum below), 0 where the call is accepted. A refused call changes no
+ * lent word but the last argument (welmocant_head: the last two; welmocant_link_at: the last three), with one exception: WELMOCANT_FALSE of
+ * welmocant_close also clears the notes and goes back to Built.
  *
  * What is lent
  *   state: WELMOCANT_STATE words: n, k, stage (0 Building, 1 Built, 2 Reading, 3 Read), passes, entries, held links, false mark.
@@ -94,39 +94,44 @@ uint32_t welmocant_cut(const uint32_t *state, size_t states, uint32_t *frag, siz
 uint32_t welmocant_sole(const uint32_t *state, size_t states, const uint32_t *frag, size_t frags, const uint32_t *held, size_t helds, uint32_t a, uint32_t b, uint64_t *answer);
 
 /* Telling a list file: what was read is told, and the answer says what to do next. A telling is WELMOCANT_TELLING words: the first
- * WELMOCANT_STATE are the state (for the questions, once it is Read); then 7 the step (0 nothing read, 1 at the head of a pass, 2 in
- * its links, 3 over), 8 and 9 the byte of the file at the buffer's front or, where refused, the place (low word, high word), 10 and 11
- * how many bytes stand at the buffer's front (the next read goes behind them) or, where something is to be printed, how many bytes of
- * the text, 12 the number of the refusal. */
+ * WELMOCANT_STATE are the state, for the questions once it is Read; then
+ *   7       the step: 0 nothing was read, 1 at the head of a pass, 2 in its links, 3 over; a word above 3 is over too
+ *   8, 9    the byte of the file at the buffer's front; after WELMOCANT_REFUSED the place (low word, high word)
+ *   10, 11  how many bytes stand at the buffer's front, the next read goes behind them; once it is over how many bytes of the text are to be
+ *           printed (low word, high word)
+ *   12      the number of the refusal, 0 where there is none. */
 #define WELMOCANT_TELLING 13
 
-/* What was heard: how many bytes were read (0 is the end of the file), or one of these. */
+/* The text of every report on n fragments has room in so many bytes. */
+#define WELMOCANT_TEXT_BYTES(n) (64 + (size_t)80 * (size_t)(n))
+
+/* What was heard: what read() answered, so that 0 is the end of the file and -1 a read that failed; or that there is no such file. */
 #define WELMOCANT_READ_FAILED ((size_t)-1)
 #define WELMOCANT_NO_FILE ((size_t)-2)
 
 enum {
     WELMOCANT_GO_ON = 0,   /* read more, behind the bytes at the buffer's front */
-    WELMOCANT_AGAIN = 1,   /* read again, from the start of the file */
-    WELMOCANT_REPORT = 2,  /* print so many bytes of the text: the report; over */
-    WELMOCANT_REFUSED = 3, /* the same: `refused R at P`; over */
-    WELMOCANT_ABSENT = 4,  /* the same: `no file`; over */
-    WELMOCANT_UNREAD = 5   /* a read failed: nothing is to be printed; over */
+    WELMOCANT_AGAIN = 1,   /* read again, from the start of the file, to the buffer's front */
+    WELMOCANT_REPORT = 2,  /* over: the text is the report, and the state is Read */
+    WELMOCANT_REFUSED = 3, /* over: the text is the line of the refusal, and words 8, 9 and 12 have it */
+    WELMOCANT_ABSENT = 4,  /* over: the text says that there is no file */
+    WELMOCANT_UNREAD = 5   /* over: a read failed, and there is nothing to print */
 };
 
-/* Bytes of text that are enough for every report on n fragments, and for every other line. */
-#define WELMOCANT_TEXT(n) ((size_t)256 + (size_t)80 * (size_t)(n))
-
-/* A telling of nothing yet, with room k. */
+/* To tell a file with room k: 0, or 3 where the array is too short, and nothing is written. A k that is no room is refused by the first
+ * welmocant_tell that sees a head. */
 uint32_t welmocant_begin(uint32_t k, uint32_t *telling, size_t tellings);
 
-/* Tells what was heard, and answers what to do next (enum above; a refusal is in the telling). The buffer has room for 6 bytes at least; the
- * tables are lent for the n that welmocant_head finds in the first bytes read, and may be empty where it refuses them. */
+/* Tells what was read; the buffer has six bytes or more. Where the telling's array is too short: WELMOCANT_REFUSED, and nothing is written.
+ * A telling that is over is refused with WELMOCANT_STAGE, and so is one whose stage word is above 3 once its links are told. */
 uint32_t welmocant_tell(uint32_t *telling, size_t tellings, uint32_t *frag, size_t frags, uint32_t *held, size_t helds, uint8_t *buffer, size_t bytes, uint8_t *text, size_t texts, size_t heard);
 
-/* Writes a list: n, then the links, two words each. Accepted, *size is the bytes written. */
+/* Writes a list to the front of a buffer: n, then the links, two words each. *size is how many bytes were written, 0 where it is refused
+ * (WELMOCANT_FRAGMENTS, WELMOCANT_FRAGMENT, WELMOCANT_SAME, WELMOCANT_END for a word left over, WELMOCANT_SHORT); the buffer is then as it was. */
 uint32_t welmocant_write_list(uint32_t n, const uint32_t *words, size_t count, uint8_t *buffer, size_t bytes, uint64_t *size);
 
-/* The link at byte `at` of a block, of which `entries` were read before: its two ends, and the byte behind it. Refused, *next is the place. */
+/* The link at byte `at` of a block, where `entries` entries of the pass came before it: its two ends, and the byte behind it. Refused, *a and
+ * *b are 0 and *next is the place. */
 uint32_t welmocant_link_at(uint32_t n, uint32_t entries, const uint8_t *block, size_t bytes, size_t at, uint32_t *a, uint32_t *b, uint64_t *next);
 
 #ifdef __cplusplus

@@ -183,7 +183,8 @@ fn lists_that_change() {
         (&[4, 0, 1, 0, 2, 0], "refused 8 at byte 5: "),
         (&[4, 0, 1, 0, 2, 0, 9], "refused 4 at byte 5: "),
         (&[], "refused 8 at byte 0: "),
-        (&[0], "refused 1: "),
+        (&[0], "refused 9: "),
+        (&[0x80, 0], "refused 7 at byte 0: "),
     ] {
         changed(&SQUARE, second, "3").says(1, &[words]);
     }
