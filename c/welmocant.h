@@ -19,8 +19,8 @@
  * Threads: nothing is kept between calls and there is no shared state. Calls on different states may run at once. Of one state one call may
  * run at a time, but several questions may whose tables are const here, while nothing writes in them; welmocant_cut writes in frag.
  *
- * Memory: nothing is allocated. Of the C library only memset is used. Stack: under 3 KB for welmocant_close, under 600 bytes for any
- * other call; docs/LINKING.md has the figures.
+ * Memory: nothing is allocated. Of the C library only memset and memcpy are used. Stack: under 9 KB for welmocant_tell, under 4 KB for
+ * welmocant_close, under 1.2 KB for any other call; docs/LINKING.md has the figures.
  */
 #ifndef WELMOCANT_H
 #define WELMOCANT_H
@@ -122,8 +122,9 @@ enum {
  * welmocant_tell that sees a head. */
 uint32_t welmocant_begin(uint32_t k, uint32_t *telling, size_t tellings);
 
-/* Tells what was read; the buffer has six bytes or more. Where the telling's array is too short: WELMOCANT_REFUSED, and nothing is written.
- * A telling that is over is refused with WELMOCANT_STAGE, and so is one whose stage word is above 3 once its links are told. */
+/* Tells what was read; a buffer has room for a link, six bytes, or is refused with WELMOCANT_SHORT. Where the telling's array is too short:
+ * WELMOCANT_REFUSED, and nothing is written. What is read for a telling that is over, or for one whose stage word is above 3, is refused with
+ * WELMOCANT_STAGE. */
 uint32_t welmocant_tell(uint32_t *telling, size_t tellings, uint32_t *frag, size_t frags, uint32_t *held, size_t helds, uint8_t *buffer, size_t bytes, uint8_t *text, size_t texts, size_t heard);
 
 /* Writes a list to the front of a buffer: n, then the links, two words each. *size is how many bytes were written, 0 where it is refused

@@ -5,9 +5,13 @@ use crate::{c, Forest, Refusal, STATE};
 /// Words of a telling.
 pub const TELLING: usize = 13;
 
-const HAVE: usize = STATE + 3;
+const STEP: usize = STATE;
 const PLACE: usize = STATE + 1;
+const HAVE: usize = STATE + 3;
 const REFUSAL: usize = STATE + 5;
+
+/// The step of a telling that is over.
+const OVER: u32 = 3;
 
 /// What was heard of the file.
 #[derive(Clone, Copy, Debug, PartialEq, Eq)]
@@ -63,8 +67,11 @@ impl Telling {
         self.words[at] as u64 | (self.words[at + 1] as u64) << 32
     }
 
-    /// How many bytes stand at the buffer's front: the next read goes behind them.
+    /// How many bytes stand at the buffer's front: the next read goes behind them. None where it is over.
     pub fn have(&self) -> usize {
+        if self.words[STEP] >= OVER {
+            return 0;
+        }
         self.wide(HAVE) as usize
     }
 
@@ -82,7 +89,7 @@ impl Telling {
         let answer = unsafe {
             c::welmocant_tell(self.words.as_mut_ptr(), TELLING, self.frag.as_mut_ptr(), self.frag.len(), self.held.as_mut_ptr(), self.held.len(), buffer.as_mut_ptr(), buffer.len(), text.as_mut_ptr(), text.len(), heard)
         };
-        let printed = self.have().min(text.len());
+        let printed = text.len().min(self.wide(HAVE) as usize);
         match answer {
             0 => Next::More,
             1 => Next::Again,
@@ -184,5 +191,8 @@ mod tests {
         assert_eq!(telling.tell(&mut [], &mut text, Heard::Bytes(1)), refused);
         assert_eq!(telling.tell(&mut buffer, &mut text, Heard::Bytes(0)), Next::More);
         assert_eq!(telling, before);
+        // What is read for a telling that is over is refused, too.
+        assert_eq!(told(&mut telling, &[1], 1, 6).0, Next::Refused(Refusal { number: 9, place: 0 }, 15));
+        assert_eq!((telling.have(), telling.tell(&mut buffer, &mut text, Heard::Bytes(1))), (0, Next::Refused(Refusal { number: 6, place: 0 }, 15)));
     }
 }
