@@ -16,6 +16,9 @@
 //! ```
 
 pub mod plain;
+mod telling;
+
+pub use telling::{text_room, Heard, Next, Telling, TELLING};
 
 mod c {
     extern "C" {
@@ -31,6 +34,10 @@ mod c {
         pub fn welmocant_piece(state: *const u32, states: usize, frag: *const u32, frags: usize, held: *const u32, helds: usize, v: u32, answer: *mut u64) -> u32;
         pub fn welmocant_cut(state: *const u32, states: usize, frag: *mut u32, frags: usize, held: *const u32, helds: usize, v: u32, answer: *mut u64) -> u32;
         pub fn welmocant_sole(state: *const u32, states: usize, frag: *const u32, frags: usize, held: *const u32, helds: usize, a: u32, b: u32, answer: *mut u64) -> u32;
+        pub fn welmocant_begin(k: u32, telling: *mut u32, tellings: usize) -> u32;
+        pub fn welmocant_tell(telling: *mut u32, tellings: usize, frag: *mut u32, frags: usize, held: *mut u32, helds: usize, buffer: *mut u8, bytes: usize, text: *mut u8, texts: usize, heard: usize) -> u32;
+        pub fn welmocant_write_list(n: u32, words: *const u32, count: usize, buffer: *mut u8, bytes: usize, size: *mut u64) -> u32;
+        pub fn welmocant_link_at(n: u32, entries: u32, block: *const u8, bytes: usize, at: usize, a: *mut u32, b: *mut u32, next: *mut u64) -> u32;
     }
 }
 
@@ -226,6 +233,20 @@ pub fn whole(buffer: &[u8]) -> usize {
     unsafe { c::welmocant_whole(buffer.as_ptr(), buffer.len()) }
 }
 
+/// Writes a list, n and then the links of two words each, at the front of a buffer: how many bytes it has.
+pub fn write_list(n: u32, words: &[u32], buffer: &mut [u8]) -> Result<usize, Refusal> {
+    let mut size = 0;
+    let number = unsafe { c::welmocant_write_list(n, words.as_ptr(), words.len(), buffer.as_mut_ptr(), buffer.len(), &mut size) };
+    answered(number, size).map(|size| size as usize)
+}
+
+/// The link at a byte of a block, of which so many entries were read before: its two ends, and the byte behind it.
+pub fn link_at(n: u32, entries: u32, block: &[u8], at: usize) -> Result<(u32, u32, usize), Refusal> {
+    let (mut a, mut b, mut next) = (0, 0, 0);
+    let number = unsafe { c::welmocant_link_at(n, entries, block.as_ptr(), block.len(), at, &mut a, &mut b, &mut next) };
+    done(number, next).map(|_| (a, b, next as usize))
+}
+
 /// A number in groups of seven bits, lowest first.
 pub fn put_number(bytes: &mut Vec<u8>, mut x: u32) {
     while x >= 128 {
@@ -282,6 +303,29 @@ mod tests {
             assert_eq!(whole(&bytes[..len]), *last, "{len} bytes");
         }
         assert_eq!(whole(&[1, 2, 0x80, 0, 5]), 5);
+    }
+
+    /// What the list writer writes is read back link by link; its refusals, and those of a link with their place.
+    #[test]
+    fn lists_written_and_read() {
+        let (words, mut buffer) = ([0, 127, 128, 32_767, 16_384, 3], [0; 32]);
+        let size = write_list(32_768, &words, &mut buffer).unwrap();
+        let (n, mut at) = head(&buffer[..size]).map(|(n, at)| (n, at as usize)).unwrap();
+        for (entries, link) in words.chunks(2).enumerate() {
+            let (a, b, next) = link_at(n, entries as u32, &buffer[..size], at).unwrap();
+            assert_eq!([a, b], link);
+            at = next;
+        }
+        assert_eq!((n, at), (32_768, size));
+        let refused = |number, place| Refusal { number, place };
+        assert_eq!(link_at(n, 3, &buffer[..size], size), Err(refused(8, size as u64)));
+        assert_eq!(link_at(n, 16_777_215, &buffer[..size], 3), Err(refused(12, 3)));
+        for (n, words, number) in [(0, &[0, 1][..], 1), (32_769, &[0, 1], 1), (4, &[0, 4], 4), (4, &[2, 2], 5), (4, &[0, 1, 2], 8)] {
+            assert_eq!(write_list(n, words, &mut buffer), Err(refused(number, 0)), "{n} {words:?}");
+        }
+        for room in 0..3 {
+            assert_eq!(write_list(4, &[0, 1], &mut buffer[..room]), Err(refused(3, 0)));
+        }
     }
 
     /// An array too short for a state: 3, after 1 and 2 where n and k are given.
