@@ -9,17 +9,29 @@ use std::process::Command;
 use welmocant::plain::{self, Building, Link};
 use welmocant::{block, put_number};
 
-/// What the program prints for a file; `None`: no file.
-fn printed(name: &str, file: Option<&[u8]>) -> String {
+/// What the program prints, and what it says on standard error, where `put` has put what it finds and `told` is said to a disk.
+fn ran(name: &str, told: &[(&str, &str)], put: impl Fn(&Path)) -> (String, String) {
     let program = Path::new(env!("CARGO_MANIFEST_DIR")).join("../target/bin/report");
     let folder: PathBuf = std::env::temp_dir().join(format!("welmocant-{}-{name}", std::process::id()));
     std::fs::create_dir_all(&folder).unwrap();
-    if let Some(bytes) = file {
-        std::fs::write(folder.join("links.sev"), bytes).unwrap();
-    }
-    let out = Command::new(program.canonicalize().expect("rt check report writes target/bin/report")).current_dir(&folder).output().unwrap();
+    let folder = folder.canonicalize().unwrap();
+    put(&folder.join("links.sev"));
+    let mut command = Command::new(program.canonicalize().expect("rt check report writes target/bin/report"));
+    command.current_dir(&folder).env("WELMOCANT_FILE", folder.join("links.sev")).envs(told.iter().copied());
+    let out = command.output().unwrap();
     std::fs::remove_dir_all(&folder).unwrap();
-    String::from_utf8(out.stdout).unwrap()
+    (String::from_utf8(out.stdout).unwrap(), String::from_utf8(out.stderr).unwrap())
+}
+
+/// What the program prints for a file; `None`: no file.
+fn printed(name: &str, file: Option<&[u8]>) -> String {
+    let (text, error) = ran(name, &[], |path| {
+        if let Some(bytes) = file {
+            std::fs::write(path, bytes).unwrap();
+        }
+    });
+    assert_eq!(error, "", "{name}");
+    text
 }
 
 /// The list of a file, or the refusal and its byte.
@@ -119,4 +131,38 @@ fn damaged_files() {
         }
     }
     println!("damaged files {cases}");
+}
+
+/// A disk that fails, in a file of more than one part: nothing is printed, and standard error says why. A ring of four fragments has no sole link;
+/// without its last link it would have three.
+#[test]
+fn failing_disks() {
+    let shim = Path::new(env!("CARGO_MANIFEST_DIR")).join("welmocant/tests/common/shim.c");
+    let library = std::env::temp_dir().join(format!("welmocant-{}-disk.so", std::process::id()));
+    let cc = std::env::var("CC").unwrap_or("cc".into());
+    assert!(Command::new(cc).args(["-shared", "-fPIC", "-O2", "-o"]).arg(&library).arg(&shim).status().unwrap().success());
+    let library = library.to_str().unwrap();
+    let mut links: Vec<Link> = (0..1_500).flat_map(|_| [(0, 1), (1, 2), (2, 3)]).collect();
+    links.push((3, 0));
+    let ring = file(4, &links);
+    let whole = expected(&ring);
+    assert!(ring.len() > 8_192 && !whole.contains("sole"));
+    let on = |name: &str, told: &[(&str, &str)]| {
+        let told: Vec<(&str, &str)> = told.iter().copied().chain([("LD_PRELOAD", library)]).collect();
+        ran(name, &told, |path| std::fs::write(path, &ring).unwrap())
+    };
+    assert_eq!(on("right", &[]), (whole.clone(), String::new()));
+    for at in ["0", "1", "4096", "8192", "9000"] {
+        let (text, error) = on(&format!("fails{at}"), &[("WELMOCANT_FAIL", at)]);
+        assert_eq!((text.as_str(), error.as_str()), ("", "report: links.sev: Input/output error\n"));
+    }
+    for most in ["1", "2", "3", "7"] {
+        assert_eq!(on(&format!("cut{most}"), &[("WELMOCANT_CUT", most)]), (whole.clone(), String::new()));
+    }
+    assert_eq!(on("short", &[("WELMOCANT_WRITE_CUT", "5")]), (whole.clone(), String::new()));
+    let (text, error) = on("full", &[("WELMOCANT_FULL", "0")]);
+    assert_eq!((text.as_str(), error.as_str()), ("", "report: standard output: No space left on device\n"));
+    let (text, error) = ran("folder", &[], |path| std::fs::create_dir(path).unwrap());
+    assert_eq!((text.as_str(), error.as_str()), ("", "report: links.sev: Is a directory\n"));
+    std::fs::remove_file(library).unwrap();
 }

@@ -84,7 +84,6 @@ fn reports_and_refusals() {
     ended(&refused.call("a list.sev"), 1, "refused 4 at 1\n", "");
     let none = Stand::new("none", "exit 0", "[ ! -e links.sev ] && echo no file");
     ended(&none.call("another.sev"), 2, "no file\n", "");
-    ended(&none.call("bin"), 2, "no file\n", "is a folder");
 }
 
 /// Where there is no report nothing is printed, and standard error says why.
@@ -92,6 +91,7 @@ fn reports_and_refusals() {
 fn what_goes_wrong() {
     let sound = Stand::new("sound", "exit 0", "echo fragments 1");
     ended(&sound.call("/proc/self/mem"), 3, "", "cannot be read");
+    ended(&sound.call("bin"), 3, "", "is a folder");
     ended(&Command::new(script()).output().unwrap(), 3, "", "usage");
     // A path with the script's own tools and no `rt`.
     let tools = sound.0.join("tools");

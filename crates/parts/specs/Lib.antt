@@ -1,6 +1,5 @@
 pub mod Parts
 pub mod Answers
 pub mod Steps
-pub mod Whole
 pub mod Laws
 pub mod Unique
