@@ -1,6 +1,6 @@
 -- What the theorems say of the files that the passes read, and of what is printed. Definitions only.
 -- Assumes nothing.
-use Prim.Native.Nat.{ℕ, _<_}
+use Prim.Native.Nat.{ℕ, _+_, _*_, _<_, _≤_}
 use mathlib.Core.Bool.{Bool, true, false}
 use mathlib.Core.List.{List, [], _∷_, _++_}
 use mathlib.Core.Logic.{_↔_}
@@ -42,6 +42,8 @@ pub record TrueReport (n : ℕ) (g : List Link) (lines : List ℕ) : Type 0 wher
   pub piece-true : (v : ℕ) → v < n → Piece g v (piece n tables v)
   pub sole-true : (a b : ℕ) → a < n → b < n → T (sole n tables a b) ↔ Sole g a b
   pub cut-true : (v : ℕ) → v < n → T (cut n tables v) ↔ Cut g v
+  -- so many bytes are room enough for it
+  pub fits : length lines ≤ 64 + 56 * n
 
 -- Of some files, one after another, the one read last is a list on which the lines are a true report; those after it are not read any more.
 pub record LastRead (files : List (List ℕ)) (lines : List ℕ) : Type 0 where

@@ -1,11 +1,11 @@
 -- The steps of telling: what each answer of a call below leads to.
 -- Assumes nothing.
 use Prim.Native.Nat.{ℕ, _+_, _<_, _≤_}
-use mathlib.Core.Bool.{Bool, true, false}
+use mathlib.Core.Bool.{Bool, true, false, not}
 use mathlib.Core.List.{List}
-use mathlib.Core.Path.{_≡_, refl, sym, ap, _∙_}
+use mathlib.Core.Path.{_≡_, refl, sym, ap, _∙_, subst}
 use native.Mathlib.Omega.{arith}
-use lib.Dec.{eqb}
+use lib.Dec.{T, eqb}
 use lib.ListN.{length}
 use Rattle.base.specs.Pick.{pick-true, pick-false, tests}
 use Rattle.base.specs.Answer.{Answer, gives, refuses}
@@ -22,12 +22,15 @@ use Rattle.state.specs.declared.Stage.the-variants.{Building}
 use Rattle.parts.specs.Parts.{Opens, Feeds, openPart, feedPart}
 use Rattle.text.specs.Lines.{refusalLine, noFileLine, store}
 use Rattle.lines.specs.Report.{reportCall}
-use Rattle.telling.specs.Tell.{Does, reads, rereads, reports, refusesAt, lacks, Said, Turn, Goes, tellingOf, beginning, sizeOf, refusing, missing, reportingBy, reporting, openingBy, opening, endingBy, ending, feedingBy, feeding, isFirst, entering, unfinished, enteredBy, entered, headingBy, heading, parted, given, fails, tellCall}
+use Rattle.telling.specs.Tell.{Does, reads, rereads, reports, refusesAt, lacks, Said, Turn, Goes, tellingOf, beginning, sizeOf, refusing, missing, reportingBy, reporting, openingBy, opening, endingBy, ending, feedingBy, feeding, isFirst, isLinks, isOver, isRead, isEnd, countIn, unheard, entering, unfinished, enteredBy, entered, headingBy, heading, parted, given, fails, tellCall}
 use Rattle.telling.specs.declared.Step.{Step}
 use Rattle.telling.specs.declared.Step.the-variants.{First, Head, Links, Over}
 use Rattle.telling.specs.declared.Telling.{Telling}
 use Rattle.telling.specs.declared.Heard.{Heard}
 use Rattle.telling.specs.declared.Heard.the-variants.{Bytes, End, Failed, NoFile}
+
+false-true : false ≡ true → ⊥
+false-true e = subst (λ (b : Bool). T (not b)) e tt
 
 -- Lines.
 module _ (text text′ : List ℕ) (r : Written) (size : ℕ) (z : size ≡ sizeOf (toldEnd r)) where
@@ -35,9 +38,9 @@ module _ (text text′ : List ℕ) (r : Written) (size : ℕ) (z : size ≡ size
   unfolding refusing
   refuse-said number place e = rw z (ap (λ (w : Wrote). record { does = refusesAt number place (sizeOf (w .answer)); text = w .buffer }) e)
 
-  pub missing-said : wrote r text′ ≡ store text noFileLine → record { does = lacks size; text = text′ } ≡ missing text
-  unfolding missing
-  missing-said e = rw z (ap (λ (w : Wrote). record { does = lacks (sizeOf (w .answer)); text = w .buffer }) e)
+  pub missing-said : (heard : Heard) → heard ≡ NoFile → wrote r text′ ≡ store text noFileLine → record { does = lacks size; text = text′ } ≡ unheard heard text
+  unfolding unheard missing
+  missing-said heard q e = rw (q, z) (ap (λ (w : Wrote). record { does = lacks (sizeOf (w .answer)); text = w .buffer }) e)
 
 -- The report.
 module _ (s : State) (f h text : List ℕ) (w : Wrote) where
@@ -143,22 +146,27 @@ module _ (t : Telling) (f h text : List ℕ) (last : Bool) (b : List ℕ) (w : O
     head-bad u p g = ap (λ (x : Said). record { turn = record { said = x; frag = f; held = h }; buffer = b }) (rw (← p) (g ∙ sym (pick-false _ _))) ∙ ap (heading t f h text last) e
 
 -- A part, by the step.
-module _ (t : Telling) (f h b text : List ℕ) (last : Bool) (step : Step) where
-  pub part-first : (u : Goes) → step ≡ First → u ≡ heading t f h text last (openPart (t .have) b) → u ≡ parted t f h b text last step
+module _ (t : Telling) (f h b text : List ℕ) (last : Bool) where
+  pub part-over : (step : Step) (u : Said) → isOver step ≡ true → u ≡ refusing 6 0 text → record { turn = record { said = u; frag = f; held = h }; buffer = b } ≡ parted t f h b text last step
   unfolding parted
-  part-first u e g = g ∙ ap (parted t f h b text last) (sym e)
+  part-over First u e g = absurd (false-true e)
+  part-over Head u e g = absurd (false-true e)
+  part-over Links u e g = absurd (false-true e)
+  part-over Over u e g = rw g refl
 
-  pub part-head : (u : Goes) → step ≡ Head → u ≡ heading t f h text last (openPart (t .have) b) → u ≡ parted t f h b text last step
+  pub part-links : (step : Step) (u : Goes) → isLinks step ≡ true → u ≡ feeding last text (feedPart (t .state) f h b (t .have) (t .offset) last) → u ≡ parted t f h b text last step
   unfolding parted
-  part-head u e g = g ∙ ap (parted t f h b text last) (sym e)
+  part-links First u e g = absurd (false-true e)
+  part-links Head u e g = absurd (false-true e)
+  part-links Links u e g = g
+  part-links Over u e g = absurd (false-true e)
 
-  pub part-links : (u : Goes) → step ≡ Links → u ≡ feeding last text (feedPart (t .state) f h b (t .have) (t .offset) last) → u ≡ parted t f h b text last step
+  pub part-head : (step : Step) (u : Goes) → isOver step ≡ false → isLinks step ≡ false → u ≡ heading t f h text last (openPart (t .have) b) → u ≡ parted t f h b text last step
   unfolding parted
-  part-links u e g = g ∙ ap (parted t f h b text last) (sym e)
-
-  pub part-over : (u : Said) → step ≡ Over → u ≡ refusing 6 0 text → record { turn = record { said = u; frag = f; held = h }; buffer = b } ≡ parted t f h b text last step
-  unfolding parted
-  part-over u e g = rw g (ap (parted t f h b text last) (sym e))
+  part-head First u e d g = g
+  part-head Head u e d g = g
+  part-head Links u e d g = absurd (false-true (sym d))
+  part-head Over u e d g = absurd (false-true (sym e))
 
 -- Bytes that the buffer has room for, or not.
 module _ (t : Telling) (f h b text : List ℕ) (count : ℕ) (last : Bool) where
@@ -176,22 +184,33 @@ module _ (t : Telling) (f h b text : List ℕ) (count : ℕ) (last : Bool) where
   give-part u k l g = g ∙ simp tests
 
 -- What was heard.
-module _ (t : Telling) (f h b text : List ℕ) (heard : Heard) where
-  pub tell-bytes : (u : Goes) (count : ℕ) → heard ≡ Bytes count → u ≡ given t f h b text count false → u ≡ tellCall t f h b text heard
-  unfolding tellCall
-  tell-bytes u count e g = g ∙ ap (tellCall t f h b text) (sym e)
+module _ (text : List ℕ) where
+  pub unread-bytes : (heard : Heard) (count : ℕ) → heard ≡ Bytes count → record { does = fails; text = text } ≡ unheard heard text
+  unfolding unheard
+  unread-bytes heard count e = rw e refl
 
-  pub tell-end : (u : Goes) → heard ≡ End → u ≡ given t f h b text 0 true → u ≡ tellCall t f h b text heard
-  unfolding tellCall
-  tell-end u e g = g ∙ ap (tellCall t f h b text) (sym e)
+  pub unread-end : (heard : Heard) → heard ≡ End → record { does = fails; text = text } ≡ unheard heard text
+  unfolding unheard
+  unread-end heard e = rw e refl
 
-  pub tell-failed : heard ≡ Failed → record { turn = record { said = record { does = fails; text = text }; frag = f; held = h }; buffer = b } ≡ tellCall t f h b text heard
-  unfolding tellCall
-  tell-failed e = ap (tellCall t f h b text) (sym e)
+  pub unread-failed : (heard : Heard) → heard ≡ Failed → record { does = fails; text = text } ≡ unheard heard text
+  unfolding unheard
+  unread-failed heard e = rw e refl
 
-  pub tell-missing : (u : Said) → heard ≡ NoFile → u ≡ missing text → record { turn = record { said = u; frag = f; held = h }; buffer = b } ≡ tellCall t f h b text heard
+module _ (t : Telling) (f h b text : List ℕ) where
+  pub tell-unread : (heard : Heard) (u : Said) → isRead heard ≡ false → u ≡ unheard heard text → record { turn = record { said = u; frag = f; held = h }; buffer = b } ≡ tellCall t f h b text heard
+  unfolding tellCall unheard
+  tell-unread (Bytes count) u e g = absurd (false-true (sym e))
+  tell-unread End u e g = absurd (false-true (sym e))
+  tell-unread Failed u e g = rw g refl
+  tell-unread NoFile u e g = rw g refl
+
+  pub tell-read : (heard : Heard) (u : Goes) (count : ℕ) (last : Bool) → isRead heard ≡ true → count ≡ countIn heard → last ≡ isEnd heard → u ≡ given t f h b text count last → u ≡ tellCall t f h b text heard
   unfolding tellCall
-  tell-missing u e g = rw g (ap (tellCall t f h b text) (sym e))
+  tell-read (Bytes i) u count last e c d g = g ∙ rw (c, d) refl
+  tell-read End u count last e c d g = g ∙ rw (c, d) refl
+  tell-read Failed u count last e c d g = absurd (false-true e)
+  tell-read NoFile u count last e c d g = absurd (false-true e)
 
 pub begin-state : (k : ℕ) (s : State) → s ≡ begun 0 k Building → tellingOf s First 0 0 ≡ beginning k
 unfolding beginning

@@ -93,6 +93,13 @@ refusing number place text =
 unfoldable pub missing : List ℕ → Said
 missing text = let w = store text noFileLine in record { does = lacks (sizeOf (w .answer)); text = w .buffer }
 
+-- Nothing was read.
+unfoldable pub unheard : Heard → List ℕ → Said
+unheard (Bytes count) text = record { does = fails; text = text }
+unheard End text = record { does = fails; text = text }
+unheard Failed text = record { does = fails; text = text }
+unheard NoFile text = missing text
+
 -- A list was read: its report.
 unfoldable pub reportingBy : State → (f h : List ℕ) → List ℕ → Answer ℕ → Turn
 reportingBy s f h text (gives size) = record { said = record { does = reports s size; text = text }; frag = f; held = h }
@@ -142,6 +149,18 @@ feedingBy last text w (refuses number place) = record {
 
 unfoldable pub feeding : Bool → List ℕ → Feeds → Goes
 feeding last text w = feedingBy last text w (w .left .answer)
+
+abbrev pub isOver : Step → Bool
+isOver First = false
+isOver Head = false
+isOver Links = false
+isOver Over = true
+
+abbrev pub isLinks : Step → Bool
+isLinks First = false
+isLinks Head = false
+isLinks Links = true
+isLinks Over = false
 
 abbrev pub isFirst : Step → Bool
 isFirst First = true
@@ -203,6 +222,25 @@ given t f h buffer text count last =
     (pick (ltb (length buffer) (t .have + count))
     (record { turn = record { said = refusing 3 0 text; frag = f; held = h }; buffer = buffer })
     (parted (tellingOf (t .state) (t .step) (t .offset) (t .have + count)) f h buffer text last (t .step)))
+
+-- The file was read: bytes of it, or its end.
+abbrev pub isRead : Heard → Bool
+isRead (Bytes count) = true
+isRead End = true
+isRead Failed = false
+isRead NoFile = false
+
+abbrev pub isEnd : Heard → Bool
+isEnd (Bytes count) = false
+isEnd End = true
+isEnd Failed = false
+isEnd NoFile = false
+
+abbrev pub countIn : Heard → ℕ
+countIn (Bytes count) = count
+countIn End = 0
+countIn Failed = 0
+countIn NoFile = 0
 
 unfoldable pub tellCall : Telling → (f h buffer text : List ℕ) → Heard → Goes
 tellCall t f h buffer text (Bytes count) = given t f h buffer text count false

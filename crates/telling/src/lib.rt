@@ -7,7 +7,7 @@ ghost use Rattle.state.specs.Close.{openCall, closeCall};
 ghost use Rattle.parts.specs.Parts.{openPart, feedPart};
 ghost use Rattle.lines.specs.Report.{reportCall};
 ghost use Rattle.telling.specs.declared.Step.the-variants.{Head};
-ghost use Rattle.telling.specs.Tell.{sizeOf, isFirst, said, turned, goes, nextDoes, rereads, tellingOf, beginning, refusing, missing, reporting, opening, ending, feeding, entering, unfinished, entered, heading, parted, given, tellCall};
+ghost use Rattle.telling.specs.Tell.{sizeOf, isFirst, isLinks, isOver, isRead, isEnd, countIn, unheard, said, turned, goes, nextDoes, rereads, tellingOf, beginning, refusing, reporting, opening, ending, feeding, entering, unfinished, entered, heading, parted, given, tellCall};
 use forest::Closed;
 use forest::Refusal;
 use forest::Stage;
@@ -91,10 +91,16 @@ fn refuse(number: u32, place: usize, text: &mut [u8]) -> Next
     )
 }
 
-fn no_file(text: &mut [u8]) -> Next
-    ensures { λ r. ⌜ said r (now (text .exit)) ≡ missing (now (text .entry)) ⌝ }
+// Nothing is printed where a read failed.
+fn unread(heard: Heard, text: &mut [u8]) -> Next
+    ensures { λ r. ⌜ said r (now (text .exit)) ≡ unheard heard (now (text .entry)) ⌝ }
 {
-    Next::NoFile(size_of(lines::no_file_line(text)))
+    match heard {
+        Heard::Bytes(_) => Next::Failed,
+        Heard::End => Next::Failed,
+        Heard::Failed => Next::Failed,
+        Heard::NoFile => Next::NoFile(size_of(lines::no_file_line(text))),
+    }
 }
 
 fn report(s: State, frag: &mut [u32], held: &[u32], text: &mut [u8]) -> Next
@@ -164,6 +170,28 @@ fn feed(
             })
         }
         Fed::Refused(bad) => refuse(bad.number, bad.place, text),
+    }
+}
+
+fn is_over(step: Step) -> bool
+    ensures { λ r. ⌜ r ≡ isOver step ⌝ }
+{
+    match step {
+        Step::First => false,
+        Step::Head => false,
+        Step::Links => false,
+        Step::Over => true,
+    }
+}
+
+fn is_links(step: Step) -> bool
+    ensures { λ r. ⌜ r ≡ isLinks step ⌝ }
+{
+    match step {
+        Step::First => false,
+        Step::Head => false,
+        Step::Links => true,
+        Step::Over => false,
     }
 }
 
@@ -277,12 +305,13 @@ fn part(
     ensures { λ r. ⌜ goes r (now (frag .exit)) (now (held .exit)) (now (buffer .exit)) (now (text .exit)) ≡ parted t (now (frag .entry)) (now (held .entry)) (now (buffer .entry)) (now (text .entry)) last (t .step) ⌝ }
 {
     let step = t.step;
-    match step {
-        Step::First => head(t, frag, held, buffer, text, last),
-        Step::Head => head(t, frag, held, buffer, text, last),
-        Step::Links => feed(t, frag, held, buffer, text, last),
-        Step::Over => refuse(6, 0, text),
+    if is_over(step) {
+        return refuse(6, 0, text);
     }
+    if is_links(step) {
+        return feed(t, frag, held, buffer, text, last);
+    }
+    head(t, frag, held, buffer, text, last)
 }
 
 // `count` bytes more stand in the buffer, behind those that it had.
@@ -318,6 +347,40 @@ fn give(
     part(there, frag, held, buffer, text, last)
 }
 
+// Whether the file was read: bytes of it, or its end.
+fn is_read(heard: Heard) -> bool
+    ensures { λ r. ⌜ r ≡ isRead heard ⌝ }
+{
+    match heard {
+        Heard::Bytes(_) => true,
+        Heard::End => true,
+        Heard::Failed => false,
+        Heard::NoFile => false,
+    }
+}
+
+fn is_end(heard: Heard) -> bool
+    ensures { λ r. ⌜ r ≡ isEnd heard ⌝ }
+{
+    match heard {
+        Heard::Bytes(_) => false,
+        Heard::End => true,
+        Heard::Failed => false,
+        Heard::NoFile => false,
+    }
+}
+
+fn count_in(heard: Heard) -> usize
+    ensures { λ r. ⌜ r ≡ countIn heard ⌝ }
+{
+    match heard {
+        Heard::Bytes(count) => count,
+        Heard::End => 0,
+        Heard::Failed => 0,
+        Heard::NoFile => 0,
+    }
+}
+
 // Tells what was read.
 pub fn tell(
     t: Telling,
@@ -329,10 +392,8 @@ pub fn tell(
 ) -> Next
     ensures { λ r. ⌜ goes r (now (frag .exit)) (now (held .exit)) (now (buffer .exit)) (now (text .exit)) ≡ tellCall t (now (frag .entry)) (now (held .entry)) (now (buffer .entry)) (now (text .entry)) heard ⌝ }
 {
-    match heard {
-        Heard::Bytes(count) => give(t, frag, held, buffer, text, count, false),
-        Heard::End => give(t, frag, held, buffer, text, 0, true),
-        Heard::Failed => Next::Failed,
-        Heard::NoFile => no_file(text),
+    if !is_read(heard) {
+        return unread(heard, text);
     }
+    give(t, frag, held, buffer, text, count_in(heard), is_end(heard))
 }

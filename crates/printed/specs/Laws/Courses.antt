@@ -6,7 +6,8 @@ use mathlib.Core.List.{List, [], _∷_, _++_, append-assoc}
 use mathlib.Core.Logic.{_⊎_, inl, inr, _↔_}
 use mathlib.Core.Path.{_≡_, refl, sym, ap, _∙_, subst}
 use native.Mathlib.Omega.{arith}
-use native.Mathlib.Decide.{ℕ-discrete}
+use native.Mathlib.Decide.{ℕ-discrete, decLe}
+use native.Mathlib.Nat.{suc-mul, mul-one, mul-le-mul-left, le-div-iff-mul-le}
 use borrow.Author.Tests.{eq-eqb, ne-eqb}
 use lib.Dec.{T}
 use lib.ListN.{length, drop, length-append}
@@ -15,23 +16,24 @@ use Rattle.base.specs.Answer.{Answer, gives, refuses}
 use Rattle.base.specs.Truth.{T-dec, T-true, T-false}
 use Rattle.base.specs.Link.{Link}
 use Rattle.numbers.specs.Number.{Numeral, readNumber}
-use Rattle.lists.specs.List.{blockLinks}
-use Rattle.lists.specs.Theorems.{accepted-sound}
+use Rattle.lists.specs.List.{fragmentsMost, entriesMost, blockLinks}
+use Rattle.lists.specs.Theorems.{accepted-sound, accepted-count}
 use Rattle.rules.specs.Links.{Links, linked, Among, Tells, Each}
 use Rattle.rules.specs.Forest.{DepthFirst}
-use Rattle.rules.specs.Tables.{Tables, placed, par, fresh, clearNotes, cleared}
+use Rattle.rules.specs.Tables.{Tables, parentOf, placed, par, fresh, clearNotes, cleared}
 use Rattle.rules.specs.Building.{done, pass, passes, ceiling}
 use Rattle.rules.specs.Reading.{readLinks, accepted}
 use Rattle.rules.specs.Facts.{Standing, Rested}
 use Rattle.rules.specs.Laws.Append.{passes-snoc, each-snoc, passes-stand, unheld-cleared}
 use Rattle.rules.specs.Laws.Search.{every-at}
-use Rattle.rules.specs.Laws.Tables.{same-par, placed-loose, fresh-loose, fresh-standing, fresh-rested}
+use Rattle.rules.specs.Laws.Tables.{same-par, same-parentOf, placed-loose, fresh-loose, fresh-standing, fresh-rested}
 use Rattle.rules.specs.Laws.Reading.{read-forest}
 use Rattle.rules.specs.Theorems.{finished-forest, passes-within, forest-accepts, reading-accepts, sole-by-removal, cut-by-removal, piece-by-removal}
 use Rattle.state.specs.Call.{boundsRefusal}
 use Rattle.state.specs.Laws.Bounds.{bounds-known}
 use Rattle.state.specs.Laws.KeepsTables.{among-links}
 use Rattle.lines.specs.Report.{reportLines}
+use Rattle.lines.specs.Theorems.{report-fits}
 use Rattle.parts.specs.Parts.{placeIn}
 use Rattle.printed.specs.Printed.{Lent, Course, unread, again, reported, refusedAt, enters, closesBuilding, closesReading, closes, closesOr, tells, headedBy, overPass, courseFrom, course}
 use Rattle.printed.specs.Claims.{ListFile, AllTell, TrueReport, LastRead}
@@ -63,6 +65,9 @@ reported-same a b e = cc
 file-among : {n : ℕ} {g : List Link} {bytes : List ℕ} → ListFile n g bytes → Among n (linked g)
 file-among {n} {g} {bytes} F = among-links n g (accepted-sound n 0 (drop (F .head .next) bytes) g (F .links))
 
+file-count : {n : ℕ} {g : List Link} {bytes : List ℕ} → ListFile n g bytes → length g ≤ entriesMost
+file-count {n} {g} {bytes} F = accepted-count n 0 (drop (F .head .next) bytes) g (F .links)
+
 -- A pass over a list file, and over any bytes.
 module _ (w : Lent) where
   file-over : (r : Bool) (n p : ℕ) (t : Tables) (g : List Link) (bytes : List ℕ) → ListFile n g bytes → overPass w (again r n p t) bytes ≡ closes (w .k) r n p t g
@@ -93,13 +98,25 @@ module _ (w : Lent) where
   over-any : (r : Bool) (n p : ℕ) (t : Tables) (bytes : List ℕ) → Over r n p t bytes (overPass w (again r n p t) bytes)
   over-any r n p t bytes = over-head r n p t bytes (readNumber bytes 0) refl
 
+-- No more passes than fragments.
+ceiling-most : (n k : ℕ) → 1 ≤ n → 1 ≤ k → ceiling n k ≤ n
+ceiling-most n k l pos = elim (decLe (suc n) (ceiling n k)) [
+  | yes h ↦ absurd (omega (arith, le-div-iff-mul-le pos .0 h, suc-mul n k, mul-le-mul-left n pos, mul-one n))
+  | no h ↦ omega arith
+]
+
+-- The parents of a table that stands, with nothing unplaced.
+parent-inside : (n : ℕ) (t : Tables) → Standing n t → T (done n t) → (v : ℕ) → v < n → parentOf t v < n
+unfolding done
+parent-inside n t S d v l = elim (S .stands v l (every-at (placed t) n d v l)) [ inl (e, r) ↦ omega arith | inr (h, x, y) ↦ h ]
+
 -- A table that stands, and a list of which reading accepts it: the report is true of the list.
 module _ (n p : ℕ) (t : Tables) (g : List Link) (S : Standing n t) (R : Rested n t) (A : Among n (linked g)) where
   abbrev readTables : Tables
   readTables = readLinks (cleared n t) g
 
-  true-report : T (accepted n readTables) → TrueReport n g (reportLines n (length g) p readTables)
-  true-report x = record {
+  true-report : T (done n t) → n ≤ fragmentsMost → length g ≤ entriesMost → p ≤ fragmentsMost → T (accepted n readTables) → TrueReport n g (reportLines n (length g) p readTables)
+  true-report d few many times x = record {
     passes = p;
     tables = readTables;
     as-lines = refl;
@@ -107,6 +124,7 @@ module _ (n p : ℕ) (t : Tables) (g : List Link) (S : Standing n t) (R : Rested
     piece-true = piece-by-removal n t g S A x;
     sole-true = sole-by-removal n t g S A x;
     cut-true = cut-by-removal n t g S A x;
+    fits = report-fits n (length g) p readTables few many (omega arith) (λ v l. rw (same-parentOf (read-forest S g A) v) (parent-inside n t S d v l));
   }
 
   opened-tables : clearNotes n t ≡ cleared n t
@@ -147,7 +165,7 @@ unfolding courseFrom
 from-more w c b bs = refl
 
 -- Whatever was told: a report is true of the list that was read last.
-module _ (w : Lent) (n : ℕ) (pos : 1 ≤ w .k) where
+module _ (w : Lent) (n : ℕ) (pos : 1 ≤ w .k) (some : 1 ≤ n) (few : n ≤ fragmentsMost) where
   abbrev Tables-of : List (List Link) → Tables
   Tables-of gs = Built n (w .k) gs
 
@@ -155,10 +173,10 @@ module _ (w : Lent) (n : ℕ) (pos : 1 ≤ w .k) where
   last-more {b} {bs} L = record { before = b ∷ L .before; last = L .last; after = L .after; all = ap (λ (x : List (List ℕ)). b ∷ x) (L .all); n = L .n; g = L .g; listed = L .listed; true-of-it = L .true-of-it }
 
   -- The reading pass.
-  reads-truly : (gs : List (List Link)) → Each (λ g. Among n (linked g)) gs → (p : ℕ) (bs : List (List ℕ)) (lines : List ℕ) → courseFrom w (again true n p (clearNotes n (Tables-of gs))) bs ≡ reported lines → LastRead bs lines
+  reads-truly : (gs : List (List Link)) → Each (λ g. Among n (linked g)) gs → T (done n (Tables-of gs)) → (p : ℕ) → p ≤ fragmentsMost → (bs : List (List ℕ)) (lines : List ℕ) → courseFrom w (again true n p (clearNotes n (Tables-of gs))) bs ≡ reported lines → LastRead bs lines
   unfolding courseFrom
-  reads-truly gs A p [] lines e = absurd (no-report (again true n p (clearNotes n (Tables-of gs))) lines tt e)
-  reads-truly gs A p (b ∷ bs) lines e = go (over-any w true n p (clearNotes n (Tables-of gs)) b)
+  reads-truly gs A whole p times [] lines e = absurd (no-report (again true n p (clearNotes n (Tables-of gs))) lines tt e)
+  reads-truly gs A whole p times (b ∷ bs) lines e = go (over-any w true n p (clearNotes n (Tables-of gs)) b)
     where
       go : Over w true n p (clearNotes n (Tables-of gs)) b (overPass w (again true n p (clearNotes n (Tables-of gs))) b) → LastRead (b ∷ bs) lines
       go (inl (number, place, x)) = absurd (no-report (refusedAt number place) lines tt (sym (ended-refused w number place bs) ∙ ap (λ (c : Course). courseFrom w c bs) (sym x) ∙ e))
@@ -170,51 +188,54 @@ module _ (w : Lent) (n : ℕ) (pos : 1 ≤ w .k) where
             | yes d ↦
                 let q = reportLines n (length g) p (readLinks (cleared n t) g) in
                 let y : q ≡ lines = reported-same q lines (sym (ended-reported w q bs) ∙ ap (λ (c : Course). courseFrom w c bs) (sym (x ∙ read-true n p t g S R (file-among F) (w .k) d)) ∙ e) in
-                record { before = []; last = b; after = bs; all = refl; n = n; g = g; listed = F; true-of-it = subst (TrueReport n g) y (true-report n p t g S R (file-among F) d) }
+                record { before = []; last = b; after = bs; all = refl; n = n; g = g; listed = F; true-of-it = subst (TrueReport n g) y (true-report n p t g S R (file-among F) whole few (file-count F) times d) }
           ]
 
-  builds-truly : (bs : List (List ℕ)) (gs : List (List Link)) → Each (λ g. Among n (linked g)) gs → (p : ℕ) (lines : List ℕ) → courseFrom w (again false n p (Tables-of gs)) bs ≡ reported lines → LastRead bs lines
+  builds-truly : (bs : List (List ℕ)) (gs : List (List Link)) → Each (λ g. Among n (linked g)) gs → (T (done n (Tables-of gs)) → ⊥) → (p : ℕ) → p ≡ length gs → (lines : List ℕ) → courseFrom w (again false n p (Tables-of gs)) bs ≡ reported lines → LastRead bs lines
   unfolding courseFrom
-  builds-truly [] gs A p lines e = absurd (no-report (again false n p (Tables-of gs)) lines tt e)
-  builds-truly (b ∷ bs) gs A p lines e = elim (over-any w false n p (Tables-of gs) b) [
+  builds-truly [] gs A u p q lines e = absurd (no-report (again false n p (Tables-of gs)) lines tt e)
+  builds-truly (b ∷ bs) gs A u p q lines e = elim (over-any w false n p (Tables-of gs) b) [
     | inl (number, place, x) ↦ absurd (no-report (refusedAt number place) lines tt (sym (ended-refused w number place bs) ∙ ap (λ (c : Course). courseFrom w c bs) (sym x) ∙ e))
     | inr (g, F, x) ↦
         let more = each-snoc (λ h. Among n (linked h)) gs g A (file-among F) in
         let t : pass n (w .k) (Tables-of gs) g ≡ Tables-of (gs ++ (g ∷ [])) = sym (passes-snoc n (w .k) (fresh n) gs g) in
+        let long = length-append gs (g ∷ []) in
+        let times : suc p ≤ fragmentsMost = omega (arith, passes-within n (w .k) gs g pos A u .0, long, ceiling-most n (w .k) some pos) in
         elim (T-dec (done n (pass n (w .k) (Tables-of gs) g))) [
           | yes d ↦
               let y = x ∙ build-done (w .k) n p (Tables-of gs) g d ∙ ap (λ (z : Tables). again true n (suc p) (clearNotes n z)) t in
-              last-more (reads-truly (gs ++ (g ∷ [])) more (suc p) bs lines (ap (λ (c : Course). courseFrom w c bs) (sym y) ∙ e))
+              last-more (reads-truly (gs ++ (g ∷ [])) more (subst (λ (i : Tables). T (done n i)) t d) (suc p) times bs lines (ap (λ (c : Course). courseFrom w c bs) (sym y) ∙ e))
           | no d ↦
               let y = x ∙ build-more (w .k) n p (Tables-of gs) g d ∙ ap (again false n (suc p)) t in
-              last-more (builds-truly bs (gs ++ (g ∷ [])) more (suc p) lines (ap (λ (c : Course). courseFrom w c bs) (sym y) ∙ e))
+              last-more (builds-truly bs (gs ++ (g ∷ [])) more (λ z. d (subst (λ (i : Tables). T (done n i)) (sym t) z)) (suc p) (omega arith) lines (ap (λ (c : Course). courseFrom w c bs) (sym y) ∙ e))
         ]
   ]
 
 -- Where every pass tells the set E: it is reported, on a list that tells E.
-module _ (w : Lent) (n : ℕ) (pos : 1 ≤ w .k) (E : Links) (among : Among n E) where
+module _ (w : Lent) (n : ℕ) (pos : 1 ≤ w .k) (some : 1 ≤ n) (few : n ≤ fragmentsMost) (E : Links) (among : Among n E) where
   abbrev Reports : Course → Type 0
   Reports c = (lines : List ℕ) × (c ≡ reported lines) × (g : List Link) × Tells E g × TrueReport n g lines
 
   -- Once it is built, the reading pass accepts.
-  reads-reports : (gs : List (List Link)) → Each (Tells E) gs → T (done n (Built n (w .k) gs)) → (p : ℕ) (b : List ℕ) (bs : List (List ℕ)) (g : List Link) → ListFile n g b → Tells E g
+  reads-reports : (gs : List (List Link)) → Each (Tells E) gs → T (done n (Built n (w .k) gs)) → (p : ℕ) → p ≤ fragmentsMost → (b : List ℕ) (bs : List (List ℕ)) (g : List Link) → ListFile n g b → Tells E g
       → Reports (courseFrom w (again true n p (clearNotes n (Built n (w .k) gs))) (b ∷ bs))
-  reads-reports gs e d p b bs g F t =
+  reads-reports gs e d p times b bs g F t =
       let T′ = Built n (w .k) gs in
       let (S, R) = built-stands n (w .k) pos gs (tells-among n E among gs e) in
       let D = finished-forest n (w .k) E gs pos among e d in
       let x = forest-accepts n E among T′ g S D t in
       let q = reportLines n (length g) p (readLinks (cleared n T′) g) in
       let y = from-more w (again true n p (clearNotes n T′)) b bs ∙ ap (λ (c : Course). courseFrom w c bs) (file-over w true n p (clearNotes n T′) g b F ∙ read-true n p T′ g S R (file-among F) (w .k) x) ∙ ended-reported w q bs in
-      (q, y, g, t, true-report n p T′ g S R (file-among F) x)
+      (q, y, g, t, true-report n p T′ g S R (file-among F) d few (file-count F) times x)
 
-  builds-reports : (bs : List (List ℕ)) (gs : List (List Link)) → Each (Tells E) gs → (T (done n (Built n (w .k) gs)) → ⊥) → AllTell n E bs → suc (ceiling n (w .k)) ≤ length gs + length bs → (p : ℕ)
+  builds-reports : (bs : List (List ℕ)) (gs : List (List Link)) → Each (Tells E) gs → (T (done n (Built n (w .k) gs)) → ⊥) → AllTell n E bs → suc (ceiling n (w .k)) ≤ length gs + length bs → (p : ℕ) → p ≡ length gs
       → Reports (courseFrom w (again false n p (Built n (w .k) gs)) bs)
-  builds-reports [] gs e u a l p =
+  builds-reports [] gs e u a l p q =
       absurd (omega (arith, length-append gs ([] ∷ []), passes-within n (w .k) gs [] pos (tells-among n E among gs e) u .0))
-  builds-reports (b ∷ bs) gs e u ((g, F, t), a) l p =
-      let few = passes-within n (w .k) gs g pos (tells-among n E among gs e) u .0 in
+  builds-reports (b ∷ bs) gs e u ((g, F, t), a) l p q =
+      let most = passes-within n (w .k) gs g pos (tells-among n E among gs e) u .0 in
       let long = length-append gs (g ∷ []) in
+      let times : suc p ≤ fragmentsMost = omega (arith, most, long, ceiling-most n (w .k) some pos) in
       let more = each-snoc (Tells E) gs g e t in
       let z : pass n (w .k) (Built n (w .k) gs) g ≡ Built n (w .k) (gs ++ (g ∷ [])) = sym (passes-snoc n (w .k) (fresh n) gs g) in
       let first = from-more w (again false n p (Built n (w .k) gs)) b bs in
@@ -223,17 +244,17 @@ module _ (w : Lent) (n : ℕ) (pos : 1 ≤ w .k) (E : Links) (among : Among n E)
         | yes d ↦
             let y = over ∙ build-done (w .k) n p (Built n (w .k) gs) g d ∙ ap (λ (i : Tables). again true n (suc p) (clearNotes n i)) z in
             subst Reports (sym (first ∙ ap (λ (c : Course). courseFrom w c bs) y))
-            (rest bs a (omega arith) (gs ++ (g ∷ [])) more (subst (λ (i : Tables). T (done n i)) z d) (suc p))
+            (rest bs a (omega arith) (gs ++ (g ∷ [])) more (subst (λ (i : Tables). T (done n i)) z d) (suc p) times)
         | no d ↦
             let y = over ∙ build-more (w .k) n p (Built n (w .k) gs) g d ∙ ap (again false n (suc p)) z in
             subst Reports (sym (first ∙ ap (λ (c : Course). courseFrom w c bs) y))
-            (builds-reports bs (gs ++ (g ∷ [])) more (λ x. d (subst (λ (i : Tables). T (done n i)) (sym z) x)) a (omega arith) (suc p))
+            (builds-reports bs (gs ++ (g ∷ [])) more (λ x. d (subst (λ (i : Tables). T (done n i)) (sym z) x)) a (omega arith) (suc p) (omega arith))
       ]
     where
-      rest : (bs : List (List ℕ)) → AllTell n E bs → 1 ≤ length bs → (gs : List (List Link)) → Each (Tells E) gs → T (done n (Built n (w .k) gs)) → (p : ℕ)
+      rest : (bs : List (List ℕ)) → AllTell n E bs → 1 ≤ length bs → (gs : List (List Link)) → Each (Tells E) gs → T (done n (Built n (w .k) gs)) → (p : ℕ) → p ≤ fragmentsMost
           → Reports (courseFrom w (again true n p (clearNotes n (Built n (w .k) gs))) bs)
-      rest [] a l gs e d p = absurd (omega arith)
-      rest (b ∷ bs) ((g, F, t), a) l gs e d p = reads-reports gs e d p b bs g F t
+      rest [] a l gs e d p times = absurd (omega arith)
+      rest (b ∷ bs) ((g, F, t), a) l gs e d p times = reads-reports gs e d p times b bs g F t
 
 -- The first pass.
 abbrev Begins : Lent → List ℕ → Course → Type 0
@@ -262,7 +283,7 @@ reports-truly w (b ∷ bs) lines e = elim (begins-head w b (readNumber b 0) refl
   | inl (number, place, x) ↦ absurd (no-report (refusedAt number place) lines tt (sym (ended-refused w number place bs) ∙ ap (λ (c : Course). courseFrom w c bs) (sym x) ∙ e))
   | inr (n, z, x) ↦
       let k = bounds-known n (w .k) (w .frags) (w .helds) z in
-      builds-truly w n (k .some-room) (b ∷ bs) [] tt 0 lines (ap (λ (c : Course). courseFrom w c bs) (sym x) ∙ e)
+      builds-truly w n (k .some-room) (k .some-fragments) (k .fragments) (b ∷ bs) [] tt (fresh-undone n (k .some-fragments)) 0 refl lines (ap (λ (c : Course). courseFrom w c bs) (sym x) ∙ e)
 ]
 
 pub same-reports : (w : Lent) (n : ℕ) (E : Links) → Among n E → boundsRefusal n (w .k) (w .frags) (w .helds) ≡ 0 → (bs : List (List ℕ)) → AllTell n E bs → suc (ceiling n (w .k)) ≤ length bs
@@ -271,6 +292,6 @@ unfolding course courseFrom passes
 same-reports w n E among z [] a l = absurd (omega arith)
 same-reports w n E among z (b ∷ bs) ((g, F, t), a) l =
     let k = bounds-known n (w .k) (w .frags) (w .helds) z in
-    let (lines, x, g′, t′, y) = builds-reports w n (k .some-room) E among (b ∷ bs) [] tt (fresh-undone n (k .some-fragments)) ((g, F, t), a) (omega arith) 0 in
+    let (lines, x, g′, t′, y) = builds-reports w n (k .some-room) (k .some-fragments) (k .fragments) E among (b ∷ bs) [] tt (fresh-undone n (k .some-fragments)) ((g, F, t), a) (omega arith) 0 refl in
     let first = file-first w n g b F z ∙ sym (file-over w false n 0 (fresh n) g b F) in
     (lines, ap (λ (c : Course). courseFrom w c bs) first ∙ x, g′, t′, y)
