@@ -7,7 +7,7 @@
 #include <string.h>
 #include <ucontext.h>
 
-enum { ROOM = 1 << 16, MOST = 4096, TELL_MOST = 9216, PATTERN = 0xA5, N = 2000, TOLD = 500, PART = 4096 };
+enum { ROOM = 1 << 16, MOST = 4096, TELL_MOST = 5120, PATTERN = 0xA5, N = 2000, TOLD = 500, PART = 4096 };
 enum { NONE, HEAD, WHOLE, START, ADOPT, TAKE, TAKE_READING, CLOSE, CLOSE_READING, OPEN, PARENT, LEVEL, PIECE, CUT, SOLE, BEGIN, TELL, WRITE_LIST, LINK_AT, CALLS };
 
 static const char *names[CALLS] = {"none", "head", "whole", "start", "adopt", "take in Building", "take in Reading", "close in Building", "close in Reading", "open_reading", "parent", "level", "piece", "cut", "sole", "begin", "tell", "write_list", "link_at"};

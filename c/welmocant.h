@@ -19,7 +19,7 @@
  * Threads: nothing is kept between calls and there is no shared state. Calls on different states may run at once. Of one state one call may
  * run at a time, but several questions may whose tables are const here, while nothing writes in them; welmocant_cut writes in frag.
  *
- * Memory: nothing is allocated. Of the C library only memset and memcpy are used. Stack: under 9 KB for welmocant_tell, under 4 KB for
+ * Memory: nothing is allocated. Of the C library only memset and memcpy are used. Stack: under 5 KB for welmocant_tell, under 4 KB for
  * welmocant_close, under 1.2 KB for any other call; docs/LINKING.md has the figures.
  */
 #ifndef WELMOCANT_H

@@ -2,24 +2,22 @@
 -- function of the bytes that each pass read; a run (Run.antt) is calls with what was read behind the front of the buffer. The answers are those of the promise of
 -- `telling::tell`, which every answer of the code meets.
 -- Assumes nothing.
-use Prim.Native.Nat.{ℕ, suc, _+_, _<_, _≤_}
-use mathlib.Core.Bool.{Bool, true, false}
+use Prim.Native.Nat.{ℕ, suc, _+_, _≤_}
 use mathlib.Core.List.{List, [], _∷_, _++_}
 use mathlib.Core.Logic.{_⊎_, inl, inr}
-use mathlib.Core.Path.{_≡_, refl, sym, ap, _∙_, subst}
-use native.Mathlib.Omega.{arith}
+use mathlib.Core.Path.{_≡_, refl, sym, ap, _∙_}
 use lib.Dec.{T}
-use lib.ListN.{length, take}
+use lib.ListN.{length}
 use Rattle.base.specs.Link.{Link}
 use Rattle.rules.specs.Links.{Links, Among, Tells}
 use Rattle.rules.specs.Building.{ceiling}
 use Rattle.state.specs.Call.{boundsRefusal}
-use Rattle.telling.specs.Tell.{Does, reads, refusing, Said, tellCall}
+use Rattle.telling.specs.Tell.{reads, refusing, tellCall}
 use Rattle.telling.specs.declared.Telling.{Telling}
 use Rattle.telling.specs.declared.Heard.{Heard}
-use Rattle.telling.specs.declared.Heard.the-variants.{Bytes, End, Failed, NoFile}
-use Rattle.printed.specs.Printed.{Lent, Course, again, reported, refusedAt, printed, overPass, course}
-use Rattle.printed.specs.Claims.{ListFile, AllTell, TrueReport, LastRead, stops, prints, isOver, isReport}
+use Rattle.telling.specs.declared.Heard.the-variants.{Bytes, End}
+use Rattle.printed.specs.Printed.{Lent, reported, refusedAt, printed, overPass, course}
+use Rattle.printed.specs.Claims.{AllTell, TrueReport, LastRead, stops, prints, isOver, isReport}
 use Rattle.printed.specs.Run.{Moment, Reads, got, answer, Run}
 use Rattle.printed.specs.Laws.Moments.{run-holds, tells-on, tells-end, course-more}
 use Rattle.printed.specs.Laws.Prints.{end-printed, only-at-end}

@@ -3,13 +3,13 @@
 use Prim.Native.Nat.{ℕ, _+_, _<_, _≤_}
 use mathlib.Core.Bool.{Bool, true, false}
 use mathlib.Core.List.{List}
-use mathlib.Core.Path.{_≡_, refl, sym, ap, _∙_}
+use mathlib.Core.Path.{_≡_, sym, _∙_}
 use native.Mathlib.Omega.{arith}
 use native.Mathlib.Decide.{decLt}
 use borrow.Author.Tests.{lt-ltb, le-ltb}
 use lib.Dec.{eqb}
 use lib.ListN.{length}
-use Rattle.base.specs.Pick.{pick, pick-true, pick-false, pick-all, tests}
+use Rattle.base.specs.Pick.{pick-true, pick-false, pick-all, tests}
 use Rattle.telling.specs.declared.Heard.{Heard}
 use Rattle.telling.specs.declared.Heard.the-variants.{Bytes, End, Failed, NoFile}
 use Rattle.report.specs.Reading.{Silent, heardOf, Fits}

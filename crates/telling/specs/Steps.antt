@@ -4,11 +4,10 @@ use Prim.Native.Nat.{ℕ, _+_, _<_, _≤_}
 use mathlib.Core.Bool.{Bool, true, false, not}
 use mathlib.Core.List.{List}
 use mathlib.Core.Path.{_≡_, refl, sym, ap, _∙_, subst}
-use native.Mathlib.Omega.{arith}
 use lib.Dec.{T, eqb}
 use lib.ListN.{length}
 use Rattle.base.specs.Pick.{pick-true, pick-false, tests}
-use Rattle.base.specs.Answer.{Answer, gives, refuses}
+use Rattle.base.specs.Answer.{gives, refuses}
 use Rattle.numbers.specs.Number.{Wrote, groupsMost}
 use Rattle.numbers.specs.Answers.{toldEnd, wrote}
 use Rattle.numbers.specs.declared.Written.{Written}

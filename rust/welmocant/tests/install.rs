@@ -17,7 +17,7 @@ impl Stand {
     fn new() -> Self {
         let stand = Stand(Folder::new());
         let root = Path::new(env!("CARGO_MANIFEST_DIR")).join("../..");
-        for file in ["install", "rust/welmocant/packages", "rust/welmocant/welmocant.1"] {
+        for file in ["install", "welmocant", "rust/welmocant/packages", "rust/welmocant/welmocant.1"] {
             let to = stand.0.path(file);
             fs::create_dir_all(to.parent().unwrap()).unwrap();
             assert!(Command::new("cp").args([&root.join(file), &to]).status().unwrap().success());
@@ -85,6 +85,28 @@ fn installed() {
     assert_eq!(fs::read_dir(&there).unwrap().count(), 2);
     let on_path = stand.run(&["--to", stand.0.path("path").to_str().unwrap()]);
     assert_eq!((on_path.status, on_path.text()), (Some(0), "installed: welmocant report LIST (help: welmocant --help)\n"));
+}
+
+/// The script `welmocant` builds the program once, hands on its arguments, and ends as it does.
+#[test]
+fn called_at_once() {
+    let stand = Stand::new();
+    stand.tool("cargo", "mkdir -p target/release && printf '#!/bin/sh\\necho built \"$@\"; exit 5\\n' >target/release/welmocant");
+    let call = || {
+        let mut command = Command::new(stand.0.path("welmocant"));
+        command.args(["report", "a list.sev"]).current_dir("/").env("PATH", stand.0.path("path"));
+        Ran::of(command.output().unwrap())
+    };
+    let first = call();
+    assert_eq!((first.status, first.text()), (Some(5), "built report a list.sev\n"), "{}", first.err);
+    assert!(first.err.contains("minutes the first time"), "{}", first.err);
+    stand.tool("rt", "exit 1");
+    let second = call();
+    assert_eq!((second.status, second.text(), second.err.as_str()), (Some(5), "built report a list.sev\n", ""));
+    fs::remove_dir_all(stand.0.path("target/program")).unwrap();
+    let unbuilt = call();
+    assert_eq!((unbuilt.status, unbuilt.text()), (Some(3), ""));
+    assert!(unbuilt.err.contains("the library is not proved"), "{}", unbuilt.err);
 }
 
 #[test]

@@ -2,8 +2,8 @@
 -- Assumes nothing.
 use Prim.Native.Nat.{ℕ, suc, _+_, _<_, _≤_}
 use mathlib.Core.Bool.{Bool, true, false, not}
-use mathlib.Core.List.{List, [], _∷_, _++_, append-assoc}
-use mathlib.Core.Logic.{_⊎_, inl, inr, _↔_}
+use mathlib.Core.List.{List, [], _∷_, _++_}
+use mathlib.Core.Logic.{_⊎_, inl, inr}
 use mathlib.Core.Path.{_≡_, refl, sym, ap, _∙_, subst}
 use native.Mathlib.Omega.{arith}
 use native.Mathlib.Decide.{ℕ-discrete, decLe}
@@ -19,8 +19,7 @@ use Rattle.numbers.specs.Number.{Numeral, readNumber}
 use Rattle.lists.specs.List.{fragmentsMost, entriesMost, blockLinks}
 use Rattle.lists.specs.Theorems.{accepted-sound, accepted-count}
 use Rattle.rules.specs.Links.{Links, linked, Among, Tells, Each}
-use Rattle.rules.specs.Forest.{DepthFirst}
-use Rattle.rules.specs.Tables.{Tables, parentOf, placed, par, fresh, clearNotes, cleared}
+use Rattle.rules.specs.Tables.{Tables, parentOf, placed, fresh, clearNotes, cleared}
 use Rattle.rules.specs.Building.{done, pass, passes, ceiling}
 use Rattle.rules.specs.Reading.{readLinks, accepted}
 use Rattle.rules.specs.Facts.{Standing, Rested}

@@ -1,35 +1,30 @@
 -- What holds at every moment of a run: the bytes that stand at the buffer's front are those of the file that are not told, and what is told is what the
 -- course has come to.
 -- Assumes nothing.
-use Prim.Native.Nat.{ℕ, suc, _+_, _-_, _<_, _≤_}
+use Prim.Native.Nat.{ℕ, _+_, _-_, _≤_}
 use mathlib.Core.Bool.{Bool, true, false, not}
-use mathlib.Core.List.{List, [], _∷_, _++_, append-assoc, append-nil}
+use mathlib.Core.List.{List, [], _∷_, _++_, append-nil}
 use mathlib.Core.Logic.{_⊎_, inl, inr}
 use mathlib.Core.Path.{_≡_, refl, sym, ap, _∙_, subst}
 use native.Mathlib.Omega.{arith}
-use native.Mathlib.Nat.{add-zero}
 use native.Mathlib.Decide.{ℕ-discrete, decLe}
 use borrow.Author.Tests.{le-ltb, eq-eqb, ne-eqb}
 use lib.Dec.{T, eqb}
-use lib.ListN.{length, take, drop, length-append, length-drop, take-append-drop}
-use lib.Seq.{length-take-le, take-append-le, drop-append-le, take-length}
-use Rattle.base.specs.Pick.{pick, pick-true, pick-false, tests}
+use lib.ListN.{length, take, drop, length-append, length-drop}
+use lib.Seq.{length-take-le, drop-append-le}
+use Rattle.base.specs.Pick.{pick, pick-true, pick-false}
 use Rattle.base.specs.Answer.{Answer, gives, refuses}
-use Rattle.base.specs.Link.{Link}
 use Rattle.numbers.specs.Number.{Numeral, readNumber, groupsMost}
-use Rattle.numbers.specs.Words.{Whole}
-use Rattle.numbers.specs.Theorems.{number-within, number-short, number-more, number-refusal}
+use Rattle.numbers.specs.Theorems.{number-within, number-short, number-more}
 use Rattle.lists.specs.List.{linksIn, linksAt, blockLinks}
 use Rattle.rules.specs.Tables.{Tables, fresh}
-use Rattle.state.specs.Layout.{tablesIn}
 use Rattle.state.specs.Call.{Begun, boundsRefusal}
 use Rattle.state.specs.Start.{startCall, started}
 use Rattle.state.specs.Laws.KeepsBegun.{start-keeps, start-makes}
 use Rattle.state.specs.declared.State.{State}
-use Rattle.state.specs.declared.Stage.the-variants.{Building}
-use Rattle.parts.specs.Parts.{wrapped, carried, Header, Opens, headedBy as openedBy, openPart, feedPart}
+use Rattle.parts.specs.Parts.{carried, Opens, headedBy as openedBy, openPart, feedPart}
 use Rattle.parts.specs.Laws.{carried-front}
-use Rattle.telling.specs.Tell.{Does, reads, rereads, reports, refusesAt, lacks, fails, Said, Turn, Goes, tellingOf, beginning, isFirst, refusing, feeding, entering, enteredBy, entered, unfinished, headingBy, heading, parted, given, tellCall}
+use Rattle.telling.specs.Tell.{Does, reads, rereads, reports, refusesAt, lacks, fails, Said, Goes, tellingOf, beginning, refusing, feeding, entering, enteredBy, entered, unfinished, headingBy, heading, parted, given, tellCall}
 use Rattle.telling.specs.declared.Step.{Step}
 use Rattle.telling.specs.declared.Step.the-variants.{First, Head, Links, Over}
 use Rattle.telling.specs.declared.Telling.{Telling}

@@ -1,16 +1,16 @@
 -- A part of the links, cut anywhere: what is told of it, and what is carried over.
 -- Assumes nothing.
-use Prim.Native.Nat.{ℕ, _+_, _-_, _%_, _^_, _<_, _≤_}
+use Prim.Native.Nat.{ℕ, _+_, _-_, _≤_}
 use mathlib.Core.Bool.{Bool, true, false}
-use mathlib.Core.List.{List, [], _∷_, _++_, append-assoc}
+use mathlib.Core.List.{List, _++_, append-assoc}
 use mathlib.Core.Logic.{_⊎_, inl, inr}
-use mathlib.Core.Path.{_≡_, refl, sym, ap, _∙_, subst}
+use mathlib.Core.Path.{_≡_, refl, sym, ap, _∙_}
 use native.Mathlib.Omega.{arith}
-use native.Mathlib.Nat.{zero-add, add-assoc}
+use native.Mathlib.Nat.{zero-add}
 use borrow.Author.Tests.{le-ltb}
 use lib.ListN.{length, take, drop, length-append, length-drop, take-append-drop}
 use lib.Seq.{take-take, length-take-le, take-append-le, take-append-add, drop-append-le, drop-drop}
-use Rattle.base.specs.Pick.{pick, pick-true, pick-false, tests}
+use Rattle.base.specs.Pick.{pick-true, pick-false}
 use Rattle.base.specs.Answer.{Answer, gives, refuses}
 use Rattle.base.specs.Link.{Link}
 use Rattle.numbers.specs.Laws.Writing.{length-put}
@@ -22,11 +22,11 @@ use Rattle.rules.specs.Tables.{Tables}
 use Rattle.state.specs.Call.{Left, refused}
 use Rattle.state.specs.Take.{takeCall}
 use Rattle.state.specs.declared.State.{State}
-use Rattle.parts.specs.Parts.{wrapped, placeIn, carried, tellable, Feeds, fedBy, fed, feedPart}
+use Rattle.parts.specs.Parts.{wrapped, placeIn, carried, tellable, fedBy, fed, feedPart}
 use Rattle.parts.specs.Laws.{carried-front, fed-block, fed-last}
-use Rattle.telling.specs.Tell.{reads, Goes, tellingOf, refusing, feedingBy, feeding, ending}
+use Rattle.telling.specs.Tell.{reads, Goes, tellingOf, refusing, feedingBy, feeding}
 use Rattle.telling.specs.declared.Step.the-variants.{Links}
-use Rattle.printed.specs.Printed.{Course, refusedAt, closes, closesOr}
+use Rattle.printed.specs.Printed.{refusedAt, closesOr}
 use Rattle.printed.specs.Laws.Pass.{Under, take-refused, take-accepted, take-under, Leads, leads-refused, closes-leads}
 
 -- Two blocks, of which the first is accepted.

@@ -1,17 +1,16 @@
 -- A pass under way: the state and the words hold what the rules make of the links told so far, and the calls go on from there as the course does.
 -- Assumes nothing.
 use Prim.Native.Nat.{ℕ, suc, _+_, _<_, _≤_}
-use mathlib.Core.Bool.{Bool, true, false, not}
-use mathlib.Core.List.{List, [], _∷_, _++_}
+use mathlib.Core.Bool.{Bool, true, false}
+use mathlib.Core.List.{List, [], _++_}
 use mathlib.Core.Path.{_≡_, refl, sym, ap, _∙_, subst}
-use native.Mathlib.Omega.{arith}
-use lib.Dec.{T, eqb}
+use lib.Dec.{T}
 use lib.ListN.{length, length-append}
-use Rattle.base.specs.Pick.{pick, pick-true, pick-false, tests}
+use Rattle.base.specs.Pick.{pick-true, pick-false, tests}
 use Rattle.base.specs.Answer.{Answer, gives, refuses}
 use Rattle.base.specs.Truth.{T-dec, T-true, T-false}
 use Rattle.base.specs.Link.{Link}
-use Rattle.numbers.specs.Number.{Wrote, put}
+use Rattle.numbers.specs.Number.{put}
 use Rattle.lists.specs.List.{blockLinks}
 use Rattle.rules.specs.Tables.{Tables, clearNotes}
 use Rattle.rules.specs.Building.{buildLinks, closeBuilding, pass, done}
@@ -28,12 +27,12 @@ use Rattle.state.specs.Laws.KeepsCalls.{take-keeps, open-keeps, close-keeps}
 use Rattle.state.specs.Laws.KeepsLeft.{Makes, take-makes, open-makes, whole-makes, more-makes, read-makes, false-makes}
 use Rattle.state.specs.declared.State.{State}
 use Rattle.state.specs.declared.Stage.{Stage}
-use Rattle.state.specs.declared.Stage.the-variants.{Building, Built, Reading, Read}
+use Rattle.state.specs.declared.Stage.the-variants.{Building, Reading}
 use Rattle.text.specs.Lines.{store}
 use Rattle.lines.specs.Report.{reportLines, reportCall}
-use Rattle.telling.specs.Tell.{Does, reads, rereads, reports, Said, Turn, tellingOf, refusing, reportingBy, reporting, openingBy, opening, endingBy, ending, retelling}
+use Rattle.telling.specs.Tell.{rereads, reports, Turn, tellingOf, refusing, reportingBy, reporting, openingBy, opening, endingBy, ending, retelling}
 use Rattle.telling.specs.declared.Step.the-variants.{Head}
-use Rattle.printed.specs.Printed.{Lent, Course, unread, again, reported, refusedAt, closesBuilding, closesReading, closes}
+use Rattle.printed.specs.Printed.{Course, unread, again, reported, refusedAt, closesBuilding, closesReading, closes}
 
 abbrev pub stageOf : Bool → Stage
 stageOf true = Reading

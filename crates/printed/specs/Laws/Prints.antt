@@ -1,21 +1,20 @@
 -- What an answer prints, by the course that it leads on; and which answers are no report.
 -- Assumes nothing.
-use Prim.Native.Nat.{ℕ, _+_, _<_, _≤_}
-use mathlib.Core.Bool.{Bool, true, false, not}
-use mathlib.Core.List.{List, [], _∷_, _++_}
-use mathlib.Core.Path.{_≡_, refl, sym, ap, _∙_, subst}
-use native.Mathlib.Omega.{arith}
+use Prim.Native.Nat.{ℕ, _+_, _≤_}
+use mathlib.Core.Bool.{true, false}
+use mathlib.Core.List.{List}
+use mathlib.Core.Path.{_≡_, refl}
 use lib.Dec.{T, ltb}
 use lib.ListN.{length, take}
 use lib.Seq.{take-append-seam}
-use Rattle.base.specs.Pick.{pick, pick-false, pick-all, tests}
+use Rattle.base.specs.Pick.{pick-false, pick-all, tests}
 use Rattle.base.specs.Answer.{Answer, gives, refuses}
 use Rattle.numbers.specs.Number.{put, groupsMost}
 use Rattle.text.specs.Lines.{refusalLine, store}
 use Rattle.state.specs.Call.{Begun}
 use Rattle.state.specs.declared.State.{State}
 use Rattle.parts.specs.Parts.{Header, Carry, Opens, Feeds, openPart, feedPart}
-use Rattle.telling.specs.Tell.{Does, reads, refusesAt, Said, Turn, Goes, sizeOf, refusing, missing, feedingBy, feeding, enteredBy, entered, unfinished, headingBy, heading, entering, parted, given, tellCall}
+use Rattle.telling.specs.Tell.{Said, Turn, Goes, refusing, missing, feedingBy, feeding, enteredBy, entered, unfinished, headingBy, heading, parted, given, tellCall}
 use Rattle.telling.specs.declared.Step.{Step}
 use Rattle.telling.specs.declared.Step.the-variants.{First, Head, Links, Over}
 use Rattle.telling.specs.declared.Telling.{Telling}
