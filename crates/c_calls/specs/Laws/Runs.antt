@@ -16,6 +16,7 @@ use Rattle.state.specs.Take.{takes, taken, takeIn, takeCall}
 use Rattle.state.specs.Close.{Ending, opens, openCall, closeCall}
 use Rattle.state.specs.Laws.Keeps.{headed-all}
 use Rattle.state.specs.Laws.KeepsCalls.{Upholds, take-keeps, open-keeps, close-keeps}
+use Rattle.state.specs.Laws.KeepsBegun.{Begins as Keeps}
 use Rattle.c_words.specs.State.{stateSize, stateIn, Holds}
 use Rattle.c_words.specs.Answers.{Reply}
 use Rattle.c_words.specs.Laws.Holds.{passed-holds}

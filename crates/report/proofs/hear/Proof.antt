@@ -15,6 +15,9 @@ use Rattle.report.proofs.hear.Tie as tie
 returns : tie.Need-returns
 returns c = let a = c .before .before .before .before .args in record { as-long = refl; front = refl; fits = silent-fits (c .unopened .result) (a .have) (a .buffer .now) (c .unopened .ensures) }
 
+same-length : tie.Need-same-length
+same-length c = search needs
+
 returns-3 : tie.Need-returns-3
 returns-3 c = let a = c .before .before .before .before .before .before .before .before .before .before .args in record { as-long = same-length c; front = take-put (a .have) (length (a .buffer .now) - a .have) (a .buffer .now) (c .before .before .before .before .before .read .last .1 .0) (omega arith); fits = subst (λ (r : Heard). Fits (a .have) r (putMid (a .have) (length (a .buffer .now) - a .have) (a .buffer .now) (c .before .before .before .before .before .read .last .1 .0))) (sym (c .heard .ensures)) (heard-fits _ (length (a .buffer .now) - a .have) (c .before .count .result) (a .have) _ (rw (same-length c) (omega arith))) }
 
@@ -33,5 +36,5 @@ hear-spec =
     (λ c κs. search needs)
     (λ c κs. search needs)
     (λ c κs. search needs)
-    (λ c. search needs)
+    same-length
     returns-3)
