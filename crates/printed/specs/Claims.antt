@@ -27,6 +27,11 @@ pub record ListFile (n : ℕ) (g : List Link) (bytes : List ℕ) : Type 0 where
   pub has : head .value ≡ n
   pub links : blockLinks n 0 (drop (head .next) bytes) ≡ gives g
 
+-- All the files are the same bytes.
+abbrev pub Same : List ℕ → List (List ℕ) → Type 0
+Same bytes [] = Unit
+Same bytes (b ∷ rest) = (b ≡ bytes) × Same bytes rest
+
 -- Each of the files tells the same set, in any order and with any repeats.
 abbrev pub AllTell : ℕ → Links → List (List ℕ) → Type 0
 AllTell n E [] = Unit

@@ -17,11 +17,11 @@ use Rattle.telling.specs.declared.Telling.{Telling}
 use Rattle.telling.specs.declared.Heard.{Heard}
 use Rattle.telling.specs.declared.Heard.the-variants.{Bytes, End}
 use Rattle.printed.specs.Printed.{Lent, reported, refusedAt, printed, overPass, course}
-use Rattle.printed.specs.Claims.{AllTell, TrueReport, LastRead, stops, prints, isOver, isReport}
+use Rattle.printed.specs.Claims.{ListFile, Same, AllTell, TrueReport, LastRead, stops, prints, isOver, isReport}
 use Rattle.printed.specs.Run.{Moment, Reads, got, answer, Run}
 use Rattle.printed.specs.Laws.Moments.{run-holds, tells-on, tells-end, course-more}
 use Rattle.printed.specs.Laws.Prints.{end-printed, only-at-end}
-use Rattle.printed.specs.Laws.Courses.{reports-truly, same-reports}
+use Rattle.printed.specs.Laws.Courses.{reports-truly, same-reports, same-bytes-report}
 
 -- 1. However the file was cut into reads: at its end, where the text has room, what is printed is that of the bytes read; and it is said to stop exactly where the
 -- course is over.
@@ -46,8 +46,13 @@ early {w} {m} r b text count R = elim (tells-on (run-holds r) b text count R) [
   | inr (number, place, e, all) ↦ inr (number, place, e, λ rest. course-more w (m .passes) ((m .bytes ++ got m b count) ++ rest) ∙ all rest)
 ]
 
--- 2. Demand 3 for the program. Where every pass read a list file of n fragments that tells the same set, n and k being within what is lent: within n/k passes, rounded
--- up, and one to read, the report is printed, and it is true of a list that tells the set. (Where all passes read the same bytes they tell one set.)
+-- 2. Demand 3 for the program. Where every pass read the same bytes, a list file of n fragments, n and k being within what is lent: within n/k passes, rounded up, and
+-- one to read, the report is printed, and it is that by removal on the list.
+pub same-bytes : (w : Lent) (n : ℕ) (g : List Link) (bytes : List ℕ) → ListFile n g bytes → boundsRefusal n (w .k) (w .frags) (w .helds) ≡ 0
+    → (files : List (List ℕ)) → Same bytes files → suc (ceiling n (w .k)) ≤ length files → (lines : List ℕ) × (course w files ≡ reported lines) × TrueReport n g lines
+same-bytes = same-bytes-report
+
+-- The same where the passes read lists that tell one set, in any order and with any repeats: it is true of one of them.
 pub same-set : (w : Lent) (n : ℕ) (E : Links) → Among n E → boundsRefusal n (w .k) (w .frags) (w .helds) ≡ 0 → (files : List (List ℕ)) → AllTell n E files → suc (ceiling n (w .k)) ≤ length files
     → (lines : List ℕ) × (course w files ≡ reported lines) × (g : List Link) × Tells E g × TrueReport n g lines
 same-set = same-reports

@@ -4,6 +4,7 @@ use Prim.Native.Nat.{ℕ, _+_, _<_, _≤_}
 use mathlib.Core.Bool.{Bool, true, false, not}
 use mathlib.Core.List.{List}
 use mathlib.Core.Path.{_≡_, refl, sym, ap, _∙_, subst}
+use borrow.Author.Tests.{not-true, not-false}
 use lib.Dec.{T, eqb}
 use lib.ListN.{length}
 use Rattle.base.specs.Pick.{pick-true, pick-false, tests}
@@ -102,13 +103,13 @@ module _ (s : State) (step : Step) (n : ℕ) (f h : List ℕ) where
   unfolding entering
   enter-first b p e = rw p (e ∙ sym (pick-true _ _))
 
-  pub enter-other : isFirst step ≡ false → (n ≡ s .n → ⊥) → record { answer = refuses 9 0; frag = f; held = h } ≡ entering s step n f h
+  pub enter-other : (r : Bool) → isFirst step ≡ false → r ≡ not (eqb n (s .n)) → r ≡ true → record { answer = refuses 9 0; frag = f; held = h } ≡ entering s step n f h
   unfolding entering
-  enter-other p q = rw p (sym (pick-false _ _ ∙ simp tests))
+  enter-other r p q e = rw (p, not-true (eqb n (s .n)) (sym q ∙ e)) (sym (pick-false _ _ ∙ pick-false _ _))
 
-  pub enter-same : isFirst step ≡ false → n ≡ s .n → record { answer = gives s; frag = f; held = h } ≡ entering s step n f h
+  pub enter-same : (r : Bool) → isFirst step ≡ false → r ≡ not (eqb n (s .n)) → r ≡ false → record { answer = gives s; frag = f; held = h } ≡ entering s step n f h
   unfolding entering
-  enter-same p q = rw p (sym (pick-false _ _ ∙ simp tests))
+  enter-same r p q e = rw (p, not-false (eqb n (s .n)) (sym q ∙ e)) (sym (pick-false _ _ ∙ pick-true _ _))
 
 pub unfinished-last : (number : ℕ) (last : Bool) → last ≡ true → false ≡ unfinished number last
 unfolding unfinished

@@ -1,6 +1,8 @@
 // A list file told and reported without reading it: what was read is told, and the answer says what to do next. State, place in the file, what
 // is left of an unfinished number or link, and the step of the work travel in one record.
 ghost use mathlib.Core.Path.{_≡_};
+ghost use mathlib.Core.Bool.{not};
+ghost use lib.Dec.{eqb};
 ghost use Rattle.numbers.specs.Answers.{toldEnd};
 ghost use Rattle.state.specs.Answers.{begunTold};
 ghost use Rattle.state.specs.Close.{openCall, closeCall};
@@ -206,6 +208,12 @@ fn is_first(step: Step) -> bool
     }
 }
 
+fn is_other(n: usize, size: usize) -> bool
+    ensures { λ r. ⌜ r ≡ not (eqb n size) ⌝ }
+{
+    n != size
+}
+
 // The state that the links are told to, for the number of fragments that the head has: another one than before is refused, since the file is not
 // the one that the forest is built for.
 fn enter(t: Telling, n: usize, frag: &mut [u32], held: &mut [u32]) -> Started
@@ -216,7 +224,7 @@ fn enter(t: Telling, n: usize, frag: &mut [u32], held: &mut [u32]) -> Started
     if is_first(step) {
         return State::start(n, s.k, frag, held);
     }
-    if n != s.n {
+    if is_other(n, s.n) {
         return Started::Refused(Refusal {
             number: 9,
             place: 0,

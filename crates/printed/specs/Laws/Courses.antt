@@ -35,7 +35,7 @@ use Rattle.lines.specs.Report.{reportLines}
 use Rattle.lines.specs.Theorems.{report-fits}
 use Rattle.parts.specs.Parts.{placeIn}
 use Rattle.printed.specs.Printed.{Lent, Course, unread, again, reported, refusedAt, enters, closesBuilding, closesReading, closes, closesOr, tells, headedBy, overPass, courseFrom, course}
-use Rattle.printed.specs.Claims.{ListFile, AllTell, TrueReport, LastRead}
+use Rattle.printed.specs.Claims.{ListFile, Same, AllTell, TrueReport, LastRead}
 
 -- After what was printed nothing more is.
 ended-reported : (w : Lent) (lines : List ℕ) (bs : List (List ℕ)) → courseFrom w (reported lines) bs ≡ reported lines
@@ -294,3 +294,33 @@ same-reports w n E among z (b ∷ bs) ((g, F, t), a) l =
     let (lines, x, g′, t′, y) = builds-reports w n (k .some-room) (k .some-fragments) (k .fragments) E among (b ∷ bs) [] tt (fresh-undone n (k .some-fragments)) ((g, F, t), a) (omega arith) 0 refl in
     let first = file-first w n g b F z ∙ sym (file-over w false n 0 (fresh n) g b F) in
     (lines, ap (λ (c : Course). courseFrom w c bs) first ∙ x, g′, t′, y)
+
+-- Files that are all the same bytes tell one set, and the one read last is one of them.
+same-tell : (n : ℕ) (g : List Link) (bytes : List ℕ) → ListFile n g bytes → (files : List (List ℕ)) → Same bytes files → AllTell n (linked g) files
+same-tell n g bytes F [] s = tt
+same-tell n g bytes F (b ∷ files) (e, s) = ((g, rw e F, λ u v. refl), same-tell n g bytes F files s)
+
+same-last : (bytes : List ℕ) (before after : List (List ℕ)) (last : List ℕ) → Same bytes (before ++ (last ∷ after)) → last ≡ bytes
+same-last bytes [] after last (e, s) = e
+same-last bytes (b ∷ before) after last (e, s) = same-last bytes before after last s
+
+head-same : (a b : Numeral) → gives a ≡ gives b → a ≡ b
+head-same a b e = cc
+
+links-same : (g h : List Link) → gives g ≡ gives h → g ≡ h
+links-same g h e = cc
+
+file-once : {n m : ℕ} {g h : List Link} {bytes : List ℕ} → ListFile n g bytes → ListFile m h bytes → (m ≡ n) × (h ≡ g)
+file-once {n} {m} {g} {h} {bytes} F G =
+    let a : F .head ≡ G .head = head-same _ _ (sym (F .heads) ∙ G .heads) in
+    let e : m ≡ n = sym (G .has) ∙ ap (λ (x : Numeral). x .value) (sym a) ∙ F .has in
+    (e, links-same h g (sym (G .links) ∙ ap (λ (i : ℕ). blockLinks i 0 (drop (G .head .next) bytes)) e ∙ ap (λ (x : Numeral). blockLinks n 0 (drop (x .next) bytes)) (sym a) ∙ F .links))
+
+pub same-bytes-report : (w : Lent) (n : ℕ) (g : List Link) (bytes : List ℕ) → ListFile n g bytes → boundsRefusal n (w .k) (w .frags) (w .helds) ≡ 0
+    → (files : List (List ℕ)) → Same bytes files → suc (ceiling n (w .k)) ≤ length files → (lines : List ℕ) × (course w files ≡ reported lines) × TrueReport n g lines
+same-bytes-report w n g bytes F z files s l =
+    let (lines, e, h, t, r) = same-reports w n (linked g) (file-among F) z files (same-tell n g bytes F files s) l in
+    let L = reports-truly w files lines e in
+    let q : L .last ≡ bytes = same-last bytes (L .before) (L .after) (L .last) (subst (Same bytes) (L .all) s) in
+    let (i, j) = file-once F (subst (ListFile (L .n) (L .g)) q (L .listed)) in
+    (lines, e, subst (λ (x : List Link). TrueReport n x lines) j (subst (λ (m : ℕ). TrueReport m (L .g) lines) i (L .true-of-it)))

@@ -10,10 +10,10 @@ returns : tie.Need-returns
 returns c = enter-first _ (c .before .before .before .before .before .before .before .before .before .before .before .before .args .t .step) _ _ _ _ (sym (c .before .before .before .before .before .before .before .before .is-first .ensures) ∙ c .before .before .before .before .before .before .before .if1 .taken) (c .before .before .before .before .start .ensures)
 
 returns-2 : tie.Need-returns-2
-returns-2 c = enter-other (c .before .before .before .before .before .before .before .args .t .state) (c .before .before .before .before .before .before .before .args .t .step) _ _ _ (sym (c .before .before .before .is-first .ensures) ∙ c .before .before .if1 .left) (c .if2 .taken)
+returns-2 c = enter-other (c .before .before .before .before .before .before .before .args .t .state) (c .before .before .before .before .before .before .before .args .t .step) (c .before .before .before .before .before .before .before .args .n) _ _ (c .before .is-other .result) (sym (c .before .before .before .is-first .ensures) ∙ c .before .before .if1 .left) (c .before .is-other .ensures) (c .if2 .taken)
 
 returns-3 : tie.Need-returns-3
-returns-3 c = enter-same (c .before .before .before .before .before .before .before .args .t .state) (c .before .before .before .before .before .before .before .args .t .step) _ _ _ (sym (c .before .before .before .is-first .ensures) ∙ c .before .before .if1 .left) (c .if2 .left)
+returns-3 c = enter-same (c .before .before .before .before .before .before .before .args .t .state) (c .before .before .before .before .before .before .before .args .t .step) (c .before .before .before .before .before .before .before .args .n) _ _ (c .before .is-other .result) (sym (c .before .before .before .is-first .ensures) ∙ c .before .before .if1 .left) (c .before .is-other .ensures) (c .if2 .left)
 
 pub enter-spec : {M : Type 1} → statement M
 enter-spec =
@@ -24,5 +24,6 @@ enter-spec =
     (λ c. search needs)
     (λ c. search needs)
     returns
+    (λ c κs. search needs)
     returns-2
     returns-3)
