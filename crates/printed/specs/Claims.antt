@@ -82,11 +82,12 @@ sizeIn fails = 0
 abbrev pub prints : Said → List ℕ
 prints u = take (sizeIn (u .does)) (u .text)
 
-abbrev pub isOver : Course → Bool
-isOver unread = false
-isOver (again reading n passes t) = false
-isOver (reported lines) = true
-isOver (refusedAt number place) = true
+-- Whether something was printed.
+abbrev pub ended : Course → Bool
+ended unread = false
+ended (again reading n passes t) = false
+ended (reported lines) = true
+ended (refusedAt number place) = true
 
 -- Whether it is a report.
 abbrev pub isReport : Does → Bool

@@ -3,3 +3,4 @@ pub mod Claims
 pub mod Run
 pub mod Laws
 pub mod Theorems
+pub mod Known

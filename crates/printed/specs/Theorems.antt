@@ -8,7 +8,9 @@ use mathlib.Core.Logic.{_⊎_, inl, inr}
 use mathlib.Core.Path.{_≡_, refl, sym, ap, _∙_}
 use lib.Dec.{T}
 use lib.ListN.{length}
+use Rattle.base.specs.Answer.{gives}
 use Rattle.base.specs.Link.{Link}
+use Rattle.numbers.specs.Number.{Numeral, readNumber}
 use Rattle.rules.specs.Links.{Links, Among, Tells}
 use Rattle.rules.specs.Building.{ceiling}
 use Rattle.state.specs.Call.{boundsRefusal}
@@ -17,16 +19,16 @@ use Rattle.telling.specs.declared.Telling.{Telling}
 use Rattle.telling.specs.declared.Heard.{Heard}
 use Rattle.telling.specs.declared.Heard.the-variants.{Bytes, End}
 use Rattle.printed.specs.Printed.{Lent, reported, refusedAt, printed, overPass, course}
-use Rattle.printed.specs.Claims.{ListFile, Same, AllTell, TrueReport, LastRead, stops, prints, isOver, isReport}
+use Rattle.printed.specs.Claims.{ListFile, Same, AllTell, TrueReport, LastRead, stops, prints, ended, isReport}
 use Rattle.printed.specs.Run.{Moment, Reads, got, answer, Run}
 use Rattle.printed.specs.Laws.Moments.{run-holds, tells-on, tells-end, course-more}
 use Rattle.printed.specs.Laws.Prints.{end-printed, only-at-end}
-use Rattle.printed.specs.Laws.Courses.{reports-truly, same-reports, same-bytes-report}
+use Rattle.printed.specs.Laws.Courses.{course-ends, reports-truly, same-reports, same-bytes-report}
 
 -- 1. However the file was cut into reads: at its end, where the text has room, what is printed is that of the bytes read; and it is said to stop exactly where the
 -- course is over.
 pub end-prints : {w : Lent} {m : Moment} → Run w m → (b text : List ℕ) → Reads m b 0 → let c = course w (m .passes ++ (m .bytes ∷ [])) in length (printed c) ≤ length text
-    → (stops (answer m b text End .turn .said .does) ≡ isOver c) × (prints (answer m b text End .turn .said) ≡ printed c)
+    → (stops (answer m b text End .turn .said .does) ≡ ended c) × (prints (answer m b text End .turn .said) ≡ printed c)
 end-prints {w} {m} r b text R l = rw (course-more w (m .passes) (m .bytes)) (end-printed (w .k) text (overPass w (course w (m .passes)) (m .bytes)) (answer m b text End .turn) (rw (course-more w (m .passes) (m .bytes)) at l) (tells-end (run-holds r) b text R))
 
 -- So two runs that read the same bytes in the same passes print the same.
@@ -57,7 +59,12 @@ pub same-set : (w : Lent) (n : ℕ) (E : Links) → Among n E → boundsRefusal 
     → (lines : List ℕ) × (course w files ≡ reported lines) × (g : List Link) × Tells E g × TrueReport n g lines
 same-set = same-reports
 
--- 3. Whatever the passes read: a report is true of the list that was read last.
+-- 3. Whatever the passes read: something is printed after at most n/k passes, rounded up, and one to read, n being what the first head has (at once where it has none),
+pub ends : (w : Lent) (first : List ℕ) (rest : List (List ℕ)) → ((a : Numeral) → readNumber first 0 ≡ gives a → suc (ceiling (a .value) (w .k)) ≤ length (first ∷ rest))
+    → T (ended (course w (first ∷ rest)))
+ends = course-ends
+
+-- and a report is true of the list that was read last.
 pub whatever : (w : Lent) (files : List (List ℕ)) (lines : List ℕ) → course w files ≡ reported lines → LastRead files lines
 whatever = reports-truly
 

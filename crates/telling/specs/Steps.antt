@@ -22,7 +22,7 @@ use Rattle.state.specs.declared.Stage.the-variants.{Building}
 use Rattle.parts.specs.Parts.{Opens, Feeds, openPart, feedPart}
 use Rattle.text.specs.Lines.{refusalLine, noFileLine, store}
 use Rattle.lines.specs.Report.{reportCall}
-use Rattle.telling.specs.Tell.{Does, reads, rereads, reports, refusesAt, lacks, Said, Turn, Goes, tellingOf, beginning, sizeOf, refusing, missing, reportingBy, reporting, openingBy, opening, endingBy, ending, feedingBy, feeding, isFirst, isLinks, isOver, isRead, isEnd, countIn, unheard, entering, unfinished, enteredBy, entered, headingBy, heading, parted, given, fails, tellCall}
+use Rattle.telling.specs.Tell.{Does, reads, rereads, reports, refusesAt, lacks, Said, Turn, Goes, tellingOf, beginning, sizeOf, refusing, missing, reportingBy, reporting, openingBy, opening, endingBy, ending, feedingBy, feeding, isFirst, isLinks, isOver, wasRead, isEnd, countIn, unheard, entering, unfinished, enteredBy, entered, headingBy, heading, parted, given, fails, tellCall}
 use Rattle.telling.specs.declared.Step.{Step}
 use Rattle.telling.specs.declared.Step.the-variants.{First, Head, Links, Over}
 use Rattle.telling.specs.declared.Telling.{Telling}
@@ -198,14 +198,14 @@ module _ (text : List ℕ) where
   unread-failed heard e = rw e refl
 
 module _ (t : Telling) (f h b text : List ℕ) where
-  pub tell-unread : (heard : Heard) (u : Said) → isRead heard ≡ false → u ≡ unheard heard text → record { turn = record { said = u; frag = f; held = h }; buffer = b } ≡ tellCall t f h b text heard
+  pub tell-unread : (heard : Heard) (u : Said) → wasRead heard ≡ false → u ≡ unheard heard text → record { turn = record { said = u; frag = f; held = h }; buffer = b } ≡ tellCall t f h b text heard
   unfolding tellCall unheard
   tell-unread (Bytes count) u e g = absurd (false-true (sym e))
   tell-unread End u e g = absurd (false-true (sym e))
   tell-unread Failed u e g = rw g refl
   tell-unread NoFile u e g = rw g refl
 
-  pub tell-read : (heard : Heard) (u : Goes) (count : ℕ) (last : Bool) → isRead heard ≡ true → count ≡ countIn heard → last ≡ isEnd heard → u ≡ given t f h b text count last → u ≡ tellCall t f h b text heard
+  pub tell-read : (heard : Heard) (u : Goes) (count : ℕ) (last : Bool) → wasRead heard ≡ true → count ≡ countIn heard → last ≡ isEnd heard → u ≡ given t f h b text count last → u ≡ tellCall t f h b text heard
   unfolding tellCall
   tell-read (Bytes i) u count last e c d g = g ∙ rw (c, d) refl
   tell-read End u count last e c d g = g ∙ rw (c, d) refl

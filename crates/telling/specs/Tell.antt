@@ -224,11 +224,11 @@ given t f h buffer text count last =
     (parted (tellingOf (t .state) (t .step) (t .offset) (t .have + count)) f h buffer text last (t .step)))
 
 -- The file was read: bytes of it, or its end.
-abbrev pub isRead : Heard → Bool
-isRead (Bytes count) = true
-isRead End = true
-isRead Failed = false
-isRead NoFile = false
+abbrev pub wasRead : Heard → Bool
+wasRead (Bytes count) = true
+wasRead End = true
+wasRead Failed = false
+wasRead NoFile = false
 
 abbrev pub isEnd : Heard → Bool
 isEnd (Bytes count) = false

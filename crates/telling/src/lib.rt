@@ -9,7 +9,7 @@ ghost use Rattle.state.specs.Close.{openCall, closeCall};
 ghost use Rattle.parts.specs.Parts.{openPart, feedPart};
 ghost use Rattle.lines.specs.Report.{reportCall};
 ghost use Rattle.telling.specs.declared.Step.the-variants.{Head};
-ghost use Rattle.telling.specs.Tell.{sizeOf, isFirst, isLinks, isOver, isRead, isEnd, countIn, unheard, said, turned, goes, nextDoes, rereads, tellingOf, beginning, refusing, reporting, opening, ending, feeding, entering, unfinished, entered, heading, parted, given, tellCall};
+ghost use Rattle.telling.specs.Tell.{sizeOf, isFirst, isLinks, isOver, wasRead, isEnd, countIn, unheard, said, turned, goes, nextDoes, rereads, tellingOf, beginning, refusing, reporting, opening, ending, feeding, entering, unfinished, entered, heading, parted, given, tellCall};
 use forest::Closed;
 use forest::Refusal;
 use forest::Stage;
@@ -356,8 +356,8 @@ fn give(
 }
 
 // Whether the file was read: bytes of it, or its end.
-fn is_read(heard: Heard) -> bool
-    ensures { λ r. ⌜ r ≡ isRead heard ⌝ }
+fn was_read(heard: Heard) -> bool
+    ensures { λ r. ⌜ r ≡ wasRead heard ⌝ }
 {
     match heard {
         Heard::Bytes(_) => true,
@@ -400,7 +400,7 @@ pub fn tell(
 ) -> Next
     ensures { λ r. ⌜ goes r (now (frag .exit)) (now (held .exit)) (now (buffer .exit)) (now (text .exit)) ≡ tellCall t (now (frag .entry)) (now (held .entry)) (now (buffer .entry)) (now (text .entry)) heard ⌝ }
 {
-    if !is_read(heard) {
+    if !was_read(heard) {
         return unread(heard, text);
     }
     give(t, frag, held, buffer, text, count_in(heard), is_end(heard))

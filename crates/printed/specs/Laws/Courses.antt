@@ -11,7 +11,7 @@ use native.Mathlib.Nat.{suc-mul, mul-one, mul-le-mul-left, le-div-iff-mul-le}
 use borrow.Author.Tests.{eq-eqb, ne-eqb}
 use lib.Dec.{T}
 use lib.ListN.{length, drop, length-append}
-use Rattle.base.specs.Pick.{pick-true, pick-false}
+use Rattle.base.specs.Pick.{pick-true, pick-false, pick-all}
 use Rattle.base.specs.Answer.{Answer, gives, refuses}
 use Rattle.base.specs.Truth.{T-dec, T-true, T-false}
 use Rattle.base.specs.Link.{Link}
@@ -35,7 +35,7 @@ use Rattle.lines.specs.Report.{reportLines}
 use Rattle.lines.specs.Theorems.{report-fits}
 use Rattle.parts.specs.Parts.{placeIn}
 use Rattle.printed.specs.Printed.{Lent, Course, unread, again, reported, refusedAt, enters, closesBuilding, closesReading, closes, closesOr, tells, headedBy, overPass, courseFrom, course}
-use Rattle.printed.specs.Claims.{ListFile, Same, AllTell, TrueReport, LastRead}
+use Rattle.printed.specs.Claims.{ListFile, ended, Same, AllTell, TrueReport, LastRead}
 
 -- After what was printed nothing more is.
 ended-reported : (w : Lent) (lines : List ℕ) (bs : List (List ℕ)) → courseFrom w (reported lines) bs ≡ reported lines
@@ -49,14 +49,14 @@ ended-refused w number place [] = refl
 ended-refused w number place (b ∷ bs) = ended-refused w number place bs
 
 -- What kind of course it is, so that two kinds are not one.
-abbrev isReport : Course → Bool
-isReport unread = false
-isReport (again r n p t) = false
-isReport (reported lines) = true
-isReport (refusedAt number place) = false
+abbrev isReported : Course → Bool
+isReported unread = false
+isReported (again r n p t) = false
+isReported (reported lines) = true
+isReported (refusedAt number place) = false
 
-no-report : (c : Course) (lines : List ℕ) → T (not (isReport c)) → c ≡ reported lines → ⊥
-no-report c lines k e = subst (λ (x : Course). T (not (isReport x))) e k
+no-report : (c : Course) (lines : List ℕ) → T (not (isReported c)) → c ≡ reported lines → ⊥
+no-report c lines k e = subst (λ (x : Course). T (not (isReported x))) e k
 
 reported-same : (a b : List ℕ) → reported a ≡ reported b → a ≡ b
 reported-same a b e = cc
@@ -259,7 +259,7 @@ module _ (w : Lent) (n : ℕ) (pos : 1 ≤ w .k) (some : 1 ≤ n) (few : n ≤ f
 abbrev Begins : Lent → List ℕ → Course → Type 0
 Begins w bytes c =
     ((number : ℕ) × (place : ℕ) × (c ≡ refusedAt number place))
-    ⊎ ((n : ℕ) × (boundsRefusal n (w .k) (w .frags) (w .helds) ≡ 0) × (c ≡ overPass w (again false n 0 (fresh n)) bytes))
+    ⊎ ((a : Numeral) × (readNumber bytes 0 ≡ gives a) × (boundsRefusal (a .value) (w .k) (w .frags) (w .helds) ≡ 0) × (c ≡ overPass w (again false (a .value) 0 (fresh (a .value))) bytes))
 
 begins-head : (w : Lent) (bytes : List ℕ) (x : Answer Numeral) → readNumber bytes 0 ≡ x → Begins w bytes (overPass w unread bytes)
 unfolding overPass headedBy enters tells
@@ -267,7 +267,7 @@ begins-head w bytes (refuses number place) e = rw e (inl (number, place, refl))
 begins-head w bytes (gives a) e =
     let r = boundsRefusal (a .value) (w .k) (w .frags) (w .helds) in
     elim (ℕ-discrete r 0) [
-      | yes z ↦ inr (a .value, z, rw (e, eq-eqb r 0 z, pick-true, eq-eqb (a .value) (a .value) refl, pick-true) refl)
+      | yes z ↦ inr (a, e, z, rw (e, eq-eqb r 0 z, pick-true, eq-eqb (a .value) (a .value) refl, pick-true) refl)
       | no z ↦ inl (r, 0, rw (e, ne-eqb r 0 z, pick-false) refl)
     ]
 
@@ -280,7 +280,8 @@ unfolding course courseFrom passes
 reports-truly w [] lines e = absurd (no-report unread lines tt e)
 reports-truly w (b ∷ bs) lines e = elim (begins-head w b (readNumber b 0) refl) [
   | inl (number, place, x) ↦ absurd (no-report (refusedAt number place) lines tt (sym (ended-refused w number place bs) ∙ ap (λ (c : Course). courseFrom w c bs) (sym x) ∙ e))
-  | inr (n, z, x) ↦
+  | inr (a, h, z, x) ↦
+      let n = a .value in
       let k = bounds-known n (w .k) (w .frags) (w .helds) z in
       builds-truly w n (k .some-room) (k .some-fragments) (k .fragments) (b ∷ bs) [] tt (fresh-undone n (k .some-fragments)) 0 refl lines (ap (λ (c : Course). courseFrom w c bs) (sym x) ∙ e)
 ]
@@ -324,3 +325,49 @@ same-bytes-report w n g bytes F z files s l =
     let q : L .last ≡ bytes = same-last bytes (L .before) (L .after) (L .last) (subst (Same bytes) (L .all) s) in
     let (i, j) = file-once F (subst (ListFile (L .n) (L .g)) q (L .listed)) in
     (lines, e, subst (λ (x : List Link). TrueReport n x lines) j (subst (λ (m : ℕ). TrueReport m (L .g) lines) i (L .true-of-it)))
+
+-- It ends, whatever the passes read.
+ended-stays : (w : Lent) (c : Course) (bs : List (List ℕ)) → T (ended c) → T (ended (courseFrom w c bs))
+ended-stays w unread bs e = absurd e
+ended-stays w (again r n p t) bs e = absurd e
+ended-stays w (reported lines) bs e = rw (ended-reported w lines bs) tt
+ended-stays w (refusedAt number place) bs e = rw (ended-refused w number place bs) tt
+
+read-ends : (k n p : ℕ) (t : Tables) (g : List Link) → T (ended (closes k true n p t g))
+unfolding closes closesReading
+read-ends k n p t g = pick-all (λ (c : Course). T (ended c)) (accepted n (readLinks t g)) _ _ tt tt
+
+reads-end : (w : Lent) (n p : ℕ) (t : Tables) (bs : List (List ℕ)) → 1 ≤ length bs → T (ended (courseFrom w (again true n p t) bs))
+unfolding courseFrom
+reads-end w n p t [] l = absurd (omega arith)
+reads-end w n p t (b ∷ bs) l = elim (over-any w true n p t b) [
+  | inl (number, place, x) ↦ ended-stays w _ bs (rw x tt)
+  | inr (g, F, x) ↦ ended-stays w _ bs (rw x (read-ends (w .k) n p t g))
+]
+
+builds-end : (w : Lent) (n : ℕ) → 1 ≤ w .k → (bs : List (List ℕ)) (gs : List (List Link)) → Each (λ g. Among n (linked g)) gs → (T (done n (Built n (w .k) gs)) → ⊥)
+    → suc (ceiling n (w .k)) ≤ length gs + length bs → (p : ℕ) → T (ended (courseFrom w (again false n p (Built n (w .k) gs)) bs))
+unfolding courseFrom
+builds-end w n pos [] gs A u l p = absurd (omega (arith, length-append gs ([] ∷ []), passes-within n (w .k) gs [] pos A u .0))
+builds-end w n pos (b ∷ bs) gs A u l p = elim (over-any w false n p (Built n (w .k) gs) b) [
+  | inl (number, place, x) ↦ ended-stays w _ bs (rw x tt)
+  | inr (g, F, x) ↦
+      let most = passes-within n (w .k) gs g pos A u .0 in
+      let long = length-append gs (g ∷ []) in
+      let t : pass n (w .k) (Built n (w .k) gs) g ≡ Built n (w .k) (gs ++ (g ∷ [])) = sym (passes-snoc n (w .k) (fresh n) gs g) in
+      elim (T-dec (done n (pass n (w .k) (Built n (w .k) gs) g))) [
+        | yes d ↦ rw (x ∙ build-done (w .k) n p (Built n (w .k) gs) g d) (reads-end w n (suc p) _ bs (omega arith))
+        | no d ↦
+            rw (x ∙ build-more (w .k) n p (Built n (w .k) gs) g d ∙ ap (again false n (suc p)) t)
+            (builds-end w n pos bs (gs ++ (g ∷ [])) (each-snoc (λ h. Among n (linked h)) gs g A (file-among F)) (λ z. d (subst (λ (i : Tables). T (done n i)) (sym t) z)) (omega arith) (suc p))
+      ]
+]
+
+pub course-ends : (w : Lent) (b : List ℕ) (bs : List (List ℕ)) → ((a : Numeral) → readNumber b 0 ≡ gives a → suc (ceiling (a .value) (w .k)) ≤ length (b ∷ bs)) → T (ended (course w (b ∷ bs)))
+unfolding course courseFrom passes
+course-ends w b bs l = elim (begins-head w b (readNumber b 0) refl) [
+  | inl (number, place, x) ↦ ended-stays w _ bs (rw x tt)
+  | inr (a, h, z, x) ↦
+      let k = bounds-known (a .value) (w .k) (w .frags) (w .helds) z in
+      rw x (builds-end w (a .value) (k .some-room) (b ∷ bs) [] tt (fresh-undone (a .value) (k .some-fragments)) (omega (arith, l a h)) 0)
+]

@@ -30,6 +30,7 @@ use Rattle.telling.specs.declared.Step.the-variants.{First, Head, Links, Over}
 use Rattle.telling.specs.declared.Telling.{Telling}
 use Rattle.telling.specs.declared.Heard.the-variants.{Bytes, End}
 use Rattle.printed.specs.Printed.{Lent, Course, unread, again, reported, refusedAt, enters, closesOr, tells, headedBy, overPass, courseFrom, course}
+use Rattle.printed.specs.Claims.{ended}
 use Rattle.printed.specs.Run.{Moment, Reads, got, answer, onward, anew, Run, begins, more, again as anewRun}
 use Rattle.printed.specs.Laws.Pass.{Under, during-none, Leads, leads-refused}
 use Rattle.printed.specs.Laws.Part.{Linked, take-both, carried-length, feed-end, feed-on, feed-long, linked-more}
@@ -169,9 +170,14 @@ module _ (w : Lent) (c : Course) (s : State) (f h : List ℕ) (R : Ready w c s f
     unfolding headedBy tells
     over-other number g = over-by w c s f h R bytes ∙ ap (headedBy w bytes c) e ∙ ap (tells w (a .next) bytes) g
 
-    over-links : (r : Bool) (n p : ℕ) (t : Tables) → enters w (a .value) c ≡ again r n p t → overPass w c bytes ≡ closesOr (w .k) (a .next) r n p t (blockLinks n 0 (drop (a .next) bytes))
-    unfolding headedBy tells
-    over-links r n p t g = over-by w c s f h R bytes ∙ ap (headedBy w bytes c) e ∙ ap (tells w (a .next) bytes) g
+-- A course that a pass is in has not ended: the links are told from there.
+links-by : (w : Lent) (c : Course) (a : Numeral) (r : Bool) (n p : ℕ) (t : Tables) (bytes : List ℕ) → enters w (a .value) c ≡ again r n p t → readNumber bytes 0 ≡ gives a
+    → overPass w c bytes ≡ closesOr (w .k) (a .next) r n p t (blockLinks n 0 (drop (a .next) bytes))
+unfolding overPass headedBy tells enters
+links-by w unread a r n p t bytes g e = ap (headedBy w bytes unread) e ∙ ap (tells w (a .next) bytes) g
+links-by w (again i j k l) a r n p t bytes g e = ap (headedBy w bytes (again i j k l)) e ∙ ap (tells w (a .next) bytes) g
+links-by w (reported lines) a r n p t bytes g e = absurd (subst (λ (x : Course). T (not (ended x))) (sym g) tt)
+links-by w (refusedAt number place) a r n p t bytes g e = absurd (subst (λ (x : Course). T (not (ended x))) (sym g) tt)
 
 -- More bytes change nothing of a head that is read, or is none.
 head-more : (bytes rest : List ℕ) (a : Numeral) → readNumber bytes 0 ≡ gives a → readNumber (bytes ++ rest) 0 ≡ gives a
@@ -252,7 +258,7 @@ module _ (w : Lent) (m : Moment) (t : Telling) (b bytes text : List ℕ) (c : Co
     -- At the end of the file.
     end-in : Enters w (enters w (a .value) c) begun → Leads (w .k) text (overPass w c bytes) (heading t f h text true opened .turn)
     end-in (inl (number, x, y)) = leads-refused (w .k) text (overPass w c bytes) (heading t f h text true opened .turn) number 0 (over-other w c (t .state) f h R bytes a e number y) (entered-said true number x)
-    end-in (inr (r, n, p, z, s, x, y, U)) = rw (over-links w c (t .state) f h R bytes a e r n p z y, entered-feeds true s x) (feed-end (begun-links r n p z s U) behind-fits text)
+    end-in (inr (r, n, p, z, s, x, y, U)) = rw (links-by w c a r n p z bytes y e, entered-feeds true s x) (feed-end (begun-links r n p z s U) behind-fits text)
 
     -- Before it.
     on-in : Enters w (enters w (a .value) c) begun → Onward w m bytes text (heading t f h text false opened)
@@ -275,7 +281,7 @@ module _ (w : Lent) (m : Moment) (t : Telling) (b bytes text : List ℕ) (c : Co
                 place,
                 said,
                 λ rest.
-                    rw is (over-links w c (t .state) f h R (bytes ++ rest) a (head-more bytes rest a e) r n p z y
+                    rw is (links-by w c a r n p z (bytes ++ rest) y (head-more bytes rest a e)
                     ∙ ap (λ (q : List ℕ). closesOr (w .k) (a .next) r n p z (blockLinks n 0 q)) (drop-append-le (a .next) bytes rest (omega (arith, within-bytes)))
                     ∙ all rest),
               )
@@ -328,21 +334,6 @@ module _ (w : Lent) (m : Moment) (t : Telling) (b bytes text : List ℕ) (c : Co
 
   pub head-long : length (heading t f h text true opened .buffer) ≡ length b
   head-long = head-long-by (readNumber bytes 0) refl
-
--- A course that a pass is in has not ended.
-abbrev ended : Course → Bool
-ended unread = false
-ended (again r n p t) = false
-ended (reported lines) = true
-ended (refusedAt number place) = true
-
-links-by : (w : Lent) (c : Course) (a : Numeral) (r : Bool) (n p : ℕ) (t : Tables) (bytes : List ℕ) → enters w (a .value) c ≡ again r n p t → readNumber bytes 0 ≡ gives a
-    → overPass w c bytes ≡ closesOr (w .k) (a .next) r n p t (blockLinks n 0 (drop (a .next) bytes))
-unfolding overPass headedBy tells enters
-links-by w unread a r n p t bytes g e = ap (headedBy w bytes unread) e ∙ ap (tells w (a .next) bytes) g
-links-by w (again i j k l) a r n p t bytes g e = ap (headedBy w bytes (again i j k l)) e ∙ ap (tells w (a .next) bytes) g
-links-by w (reported lines) a r n p t bytes g e = absurd (subst (λ (x : Course). T (not (ended x))) (sym g) tt)
-links-by w (refusedAt number place) a r n p t bytes g e = absurd (subst (λ (x : Course). T (not (ended x))) (sym g) tt)
 
 given-in : (t : Telling) (f h b text : List ℕ) (count : ℕ) (last : Bool) → groupsMost + groupsMost ≤ length b → t .have + count ≤ length b
     → given t f h b text count last ≡ parted (tellingOf (t .state) (t .step) (t .offset) (t .have + count)) f h b text last (t .step)

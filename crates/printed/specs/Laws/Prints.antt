@@ -21,7 +21,7 @@ use Rattle.telling.specs.declared.Telling.{Telling}
 use Rattle.telling.specs.declared.Heard.{Heard}
 use Rattle.telling.specs.declared.Heard.the-variants.{Bytes, End, Failed, NoFile}
 use Rattle.printed.specs.Printed.{Course, unread, again, reported, refusedAt, printed}
-use Rattle.printed.specs.Claims.{stops, prints, isOver, isReport}
+use Rattle.printed.specs.Claims.{stops, prints, ended, isReport}
 use Rattle.printed.specs.Laws.Pass.{Leads}
 
 put-front : (text l : List ℕ) → take (length l) (put text 0 l) ≡ l
@@ -33,7 +33,7 @@ refusing-prints : (number place : ℕ) (text : List ℕ) → length (refusalLine
 unfolding refusing store
 refusing-prints number place text l = (refl, simp tests (put-front text (refusalLine number place)))
 
-pub end-printed : (k : ℕ) (text : List ℕ) (c : Course) (u : Turn) → length (printed c) ≤ length text → Leads k text c u → (stops (u .said .does) ≡ isOver c) × (prints (u .said) ≡ printed c)
+pub end-printed : (k : ℕ) (text : List ℕ) (c : Course) (u : Turn) → length (printed c) ≤ length text → Leads k text c u → (stops (u .said .does) ≡ ended c) × (prints (u .said) ≡ printed c)
 end-printed k text unread u l x = absurd x
 end-printed k text (again r n p t) u l (s, e, U) = rw e (refl, refl)
 end-printed k text (reported lines) u l (x, y) = let (s, e) = x l in rw e (refl, put-front text lines)
