@@ -17,7 +17,8 @@ const PART: usize = 4096;
 
 const TEXT: usize = 65536;
 
-// So many reads are never made: a pass ends by refusal 12 within seven bytes for each of its entries, and there are at most 513 passes.
+// So many reads are never made: each brings a byte, a pass is refused with 12 before it has six bytes for each of 2^24 entries, and there are at most
+// 129 passes.
 const TURNS: u64 = 1000000000000;
 
 fn open_list() -> i32 {
@@ -66,7 +67,7 @@ fn hear(fd: i32, buffer: &mut [u8], have: usize) -> Heard
     heard(got < 0, room, count)
 }
 
-// Where telling goes on: the file anew, or as it is.
+// The file once more, from its start.
 fn reopened(fd: i32) -> i32 {
     libc::close(fd);
     open_list()
