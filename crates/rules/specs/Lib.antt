@@ -6,6 +6,7 @@ pub mod Tables
 pub mod Building
 pub mod Adopting
 pub mod Reading
+pub mod Numbers
 pub mod Facts
 pub mod Method
 pub mod Known

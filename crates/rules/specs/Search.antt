@@ -1,6 +1,6 @@
--- Counting, searching, choosing the least and listing, among the fragments below n. Definitions only.
+-- Counting, adding, searching, choosing the least and listing, among the fragments below n. Definitions only.
 -- Assumes nothing.
-use Prim.Native.Nat.{ℕ, zero, suc, min}
+use Prim.Native.Nat.{ℕ, zero, suc, _+_, min}
 use mathlib.Core.Bool.{Bool, true, false, cond, _||_, _&&_}
 use mathlib.Core.List.{List, [], _∷_, _++_}
 use lib.Dec.{ltb}
@@ -9,6 +9,11 @@ use lib.Dec.{ltb}
 unfoldable pub count : (ℕ → Bool) → ℕ → ℕ
 count p zero = 0
 count p (suc n) = cond (p n) (suc (count p n)) (count p n)
+
+-- The sum of the values of the fragments below n.
+unfoldable pub sum : (ℕ → ℕ) → ℕ → ℕ
+sum f zero = 0
+sum f (suc n) = f n + sum f n
 
 -- Some fragment below n passes a test.
 unfoldable pub some : (ℕ → Bool) → ℕ → Bool

@@ -1,4 +1,4 @@
--- Counting the entries of a list of links: sums over the fragments below n, and the bound of a union.
+-- Counting the entries of a list of links, and the bound of a union.
 -- Assumes nothing.
 use Prim.Native.Nat.{ℕ, zero, suc, _+_, _*_, _≤_, _<_}
 use mathlib.Core.Path.{_≡_}
@@ -10,14 +10,9 @@ use lib.Dec.{T}
 use Rattle.base.specs.Truth.{T-dec}
 use Rattle.base.specs.Link.{Link}
 use Rattle.rules.specs.Links.{tally}
-use Rattle.rules.specs.Search.{count, some}
+use Rattle.rules.specs.Search.{count, some, sum}
 use Rattle.rules.specs.Laws.Search.{count-yes, count-no}
 use Rattle.rules.specs.Laws.Split.{bit, bit-le, tally-cons, tally-nil, Entry, entry-head, entry-tail, tally-none}
-
--- The sum of the values of the fragments below n.
-unfoldable pub sum : (ℕ → ℕ) → ℕ → ℕ
-sum f zero = 0
-sum f (suc n) = f n + sum f n
 
 -- A test that every entry passes which passes another counts as many or more.
 pub tally-mono : (p q : Link → Bool) (g : List Link) → ((e : Link) → Entry g e → T (p e) → T (q e)) → tally p g ≤ tally q g
