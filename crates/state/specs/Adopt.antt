@@ -28,5 +28,5 @@ adoptRefusal n k ps frags helds =
 unfoldable pub adoptCall : (n k : ℕ) → List ℕ → List ℕ → List ℕ → Begun
 adoptCall n k ps f h =
     pick (eqb (adoptRefusal n k ps (length f) (length h)) 0)
-    (record { answer = gives (adoptedState n k); frag = fragOf n (adopted n ps) f; held = heldOf n k (adopted n ps) h })
+    (record { answer = gives (adoptedState n k); frag = fragOf Built n (adopted n ps) f; held = heldOf n k (adopted n ps) h })
     (record { answer = refuses (adoptRefusal n k ps (length f) (length h)) 0; frag = f; held = h })

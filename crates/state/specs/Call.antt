@@ -68,4 +68,4 @@ moved stage passes entries t s = movedOn s stage passes entries (length (t .held
 
 -- What an accepted call leaves: an answer, the state, and the tables t in the words that were lent.
 unfoldable pub leaves : {A : Type 0} → A → State → Tables → List ℕ → List ℕ → Left A
-leaves answer s t f h = record { answer = gives answer; state = s; frag = fragOf (s .n) t f; held = heldOf (s .n) (s .k) t h }
+leaves answer s t f h = record { answer = gives answer; state = s; frag = fragOf (s .stage) (s .n) t f; held = heldOf (s .n) (s .k) t h }

@@ -48,7 +48,7 @@ endReading s t f h =
     (record {
       answer = refuses 9 0;
       state = moved Built (s .passes) 0 (clearNotes (s .n) t) s;
-      frag = fragOf (s .n) (clearNotes (s .n) t) f;
+      frag = fragOf Built (s .n) (clearNotes (s .n) t) f;
       held = heldOf (s .n) (s .k) (clearNotes (s .n) t) h;
     })
 

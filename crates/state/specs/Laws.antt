@@ -5,6 +5,7 @@ pub mod Lists
 pub mod Clear
 pub mod Words
 pub mod Layout
+pub mod Behind
 pub mod Lay
 pub mod Held
 pub mod Agrees

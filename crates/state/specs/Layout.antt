@@ -8,7 +8,10 @@ use lib.ListN.{length, getD, take, drop, replicate}
 use lib.Dec.{ltb}
 use Rattle.base.specs.Pick.{pick}
 use Rattle.base.specs.Link.{Link}
+use Rattle.rules.specs.Search.{table}
 use Rattle.rules.specs.Tables.{Tables}
+use Rattle.rules.specs.Numbers.{turn, end, atTurn}
+use Rattle.state.specs.Stages.{isNumbered}
 use Rattle.state.specs.declared.State.{State}
 use Rattle.state.specs.declared.Stage.{Stage}
 use Rattle.state.specs.declared.Stage.the-variants.{Built}
@@ -25,13 +28,30 @@ movedOn s stage passes entries held crossed = record { n = s .n; k = s .k; stage
 abbrev pub words : ℕ
 words = 16
 
--- The sections that are stored: parent, level, note and mark. The others are scratch.
+-- The sections that are stored in every stage: parent, level, note and mark.
 abbrev pub stored : ℕ
 stored = 4
+
+-- Those that follow them while the forest is numbered: the turn of each fragment, where those below it end, and whose turn each is.
+abbrev pub numbers : ℕ
+numbers = 3
+
+-- The sections that are stored in a stage. The others are scratch.
+unfoldable pub storedIn : Stage → ℕ
+storedIn stage = pick (isNumbered stage) (stored + numbers) stored
 
 -- Section j of the fragment table: n words from word j·n on.
 unfoldable pub section : ℕ → ℕ → List ℕ → List ℕ
 section n j f = take n (drop (j * n) f)
+
+abbrev pub turnIn : ℕ → List ℕ → ℕ → ℕ
+turnIn n f v = getD (section n 4 f) v 0
+
+abbrev pub endIn : ℕ → List ℕ → ℕ → ℕ
+endIn n f v = getD (section n 5 f) v 0
+
+abbrev pub whoseIn : ℕ → List ℕ → ℕ → ℕ
+whoseIn n f i = getD (section n 6 f) i 0
 
 -- A held link in a word: the smaller end in the high part.
 abbrev pub radix : ℕ
@@ -81,9 +101,17 @@ pub record Says (r x : ℕ) : Type 0 where
 unfoldable pub wiped : ℕ → ℕ → List ℕ → List ℕ
 wiped from to l = take from l ++ (replicate (min to (length l) - from) 0 ++ drop (max from to) l)
 
--- The fragment table that holds the tables t, over the words that stood there: scratch is 0, words past 16·n stay.
-unfoldable pub fragOf : ℕ → Tables → List ℕ → List ℕ
-fragOf n t f = t .parent ++ (t .level ++ (t .note ++ (t .mark ++ (replicate ((words - stored) * n) 0 ++ drop (words * n) f))))
+-- The numbers of the forest t.
+unfoldable pub numbersOf : ℕ → Tables → List ℕ
+numbersOf n t = table (turn n t) n ++ (table (end n t) n ++ table (atTurn n t) n)
+
+-- What is laid behind the sections of every stage: the numbers of the forest where it is numbered, and scratch, which is 0.
+unfoldable pub behind : Stage → ℕ → Tables → List ℕ
+behind stage n t = pick (isNumbered stage) (numbersOf n t) [] ++ replicate ((words - storedIn stage) * n) 0
+
+-- The fragment table that holds the tables t in a stage, over the words that stood there: words past 16·n stay.
+unfoldable pub fragOf : Stage → ℕ → Tables → List ℕ → List ℕ
+fragOf stage n t f = t .parent ++ (t .level ++ (t .note ++ (t .mark ++ (behind stage n t ++ drop (words * n) f))))
 
 -- The held table that holds the links of t in order of arrival: unused words are 0, words past k·n stay.
 unfoldable pub heldOf : ℕ → ℕ → Tables → List ℕ → List ℕ

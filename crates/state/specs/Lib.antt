@@ -1,3 +1,4 @@
+pub mod Stages
 pub mod Layout
 pub mod Test
 pub mod Call

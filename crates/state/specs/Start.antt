@@ -19,5 +19,5 @@ started n k = begun n k Building
 unfoldable pub startCall : (n k : ℕ) → List ℕ → List ℕ → Begun
 startCall n k f h =
     pick (eqb (boundsRefusal n k (length f) (length h)) 0)
-    (record { answer = gives (started n k); frag = fragOf n (fresh n) f; held = heldOf n k (fresh n) h })
+    (record { answer = gives (started n k); frag = fragOf Building n (fresh n) f; held = heldOf n k (fresh n) h })
     (record { answer = refuses (boundsRefusal n k (length f) (length h)) 0; frag = f; held = h })

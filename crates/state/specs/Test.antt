@@ -13,34 +13,10 @@ use Rattle.rules.specs.Search.{count, every}
 use Rattle.rules.specs.Tables.{Tables, parentOf, rank, noteOf, markOf, placed, lev}
 use Rattle.rules.specs.Building.{pieces, member, sizeOf, heldIn, done}
 use Rattle.rules.specs.Reading.{accepted}
-use Rattle.state.specs.Layout.{words, stored, tablesIn}
+use Rattle.rules.specs.Numbers.{turn, end, atTurn}
+use Rattle.state.specs.Layout.{words, storedIn, tablesIn, turnIn, endIn, whoseIn}
 use Rattle.state.specs.declared.State.{State}
-use Rattle.state.specs.declared.Stage.{Stage}
-use Rattle.state.specs.declared.Stage.the-variants.{Building, Built, Reading, Read}
-
-abbrev pub isBuilding : Stage → Bool
-isBuilding Building = true
-isBuilding Built = false
-isBuilding Reading = false
-isBuilding Read = false
-
-abbrev pub isBuilt : Stage → Bool
-isBuilt Building = false
-isBuilt Built = true
-isBuilt Reading = false
-isBuilt Read = false
-
-abbrev pub isReading : Stage → Bool
-isReading Building = false
-isReading Built = false
-isReading Reading = true
-isReading Read = false
-
-abbrev pub isRead : Stage → Bool
-isRead Building = false
-isRead Built = false
-isRead Reading = false
-isRead Read = true
+pub use Rattle.state.specs.Stages.{isBuilding, isBuilt, isReading, isRead, isNumbered}
 
 -- A clause that is asked only where a test holds.
 unfoldable pub asked : Bool → Bool → Bool
@@ -100,13 +76,13 @@ unfoldable pub notesFit : State → Tables → Bool
 notesFit s t =
     asked (isBuilding (s .stage)) (every (noteFits (s .n) t) (s .n))
     && (asked (isBuilt (s .stage)) (every (clearAt t) (s .n) && eqb (s .entries) 0)
-    && asked (isReading (s .stage) || isRead (s .stage)) (every (lowFits t) (s .n)))
+    && asked (isNumbered (s .stage)) (every (lowFits t) (s .n)))
 
 -- 'unused held words and scratch are 0'
 unfoldable pub restZero : State → List ℕ → List ℕ → Bool
 restZero s f h =
     allZero (drop (s .held) (take (s .k * s .n) h))
-    && allZero (take ((words - stored) * s .n) (drop (stored * s .n) f))
+    && allZero (take ((words - storedIn (s .stage)) * s .n) (drop (storedIn (s .stage) * s .n) f))
 
 -- 'the entry count is at most 16,777,215, and the pass count at most one more than the number of fragments placed'
 unfoldable pub countsFit : State → Tables → Bool
@@ -122,7 +98,7 @@ unfoldable pub markFits : State → Tables → ℕ → Bool
 markFits s t v =
     leb (markOf t v) 1
     && (asked (isBuilding (s .stage)) (eqb (markOf t v) 0 || not (placed t v))
-    && asked (isReading (s .stage) || isRead (s .stage)) (eqb (markOf t v) 0 || not (eqb (parentOf t v) v)))
+    && asked (isNumbered (s .stage)) (eqb (markOf t v) 0 || not (eqb (parentOf t v) v)))
 
 unfoldable pub restAgrees : State → Tables → Bool
 restAgrees s t =
@@ -130,6 +106,13 @@ restAgrees s t =
     && (every (markFits s t) (s .n)
     && (asked (not (isReading (s .stage))) (not (s .crossed))
     && leb (s .held) (s .k * s .n)))
+
+-- 'numbers stored for this fall under test 11': in Reading and Read each fragment's turn, where those below it end, and whose turn each is
+unfoldable pub numberedAt : ℕ → Tables → List ℕ → ℕ → Bool
+numberedAt n t f v = eqb (turnIn n f v) (turn n t v) && (eqb (endIn n f v) (end n t v) && eqb (whoseIn n f v) (atTurn n t v))
+
+unfoldable pub numbersFit : State → Tables → List ℕ → Bool
+numbersFit s t f = asked (isNumbered (s .stage)) (every (numberedAt (s .n) t f) (s .n))
 
 -- The whole test, of a state whose n, k and tables are within their bounds.
 unfoldable pub fits : State → Tables → List ℕ → List ℕ → Bool
@@ -141,7 +124,8 @@ fits s t f h =
     && (restZero s f h
     && (countsFit s t
     && (readFits s t
-    && restAgrees s t))))))
+    && (restAgrees s t
+    && numbersFit s t f)))))))
 
 unfoldable pub sound : State → List ℕ → List ℕ → Bool
 sound s f h = fits s (tablesIn s f h) f h

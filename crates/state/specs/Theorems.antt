@@ -15,16 +15,17 @@ use Rattle.state.specs.Laws.Bounds.{bounds-known}
 use Rattle.state.specs.Laws.Sound.{sound-laid}
 use Rattle.state.specs.Laws.Start.{fresh-agrees, fresh-laid, told-once}
 use Rattle.state.specs.declared.Started.{Started}
+use Rattle.state.specs.declared.Stage.the-variants.{Building}
 
 -- 'What an accepted call leaves .. passes this test.'
 pub start-sound : (n k : ℕ) (f h : List ℕ) → boundsRefusal n k (length f) (length h) ≡ 0
-    → T (sound (started n k) (fragOf n (fresh n) f) (heldOf n k (fresh n) h))
+    → T (sound (started n k) (fragOf Building n (fresh n) f) (heldOf n k (fresh n) h))
 start-sound n k f h e =
     let b = bounds-known n k (length f) (length h) e in
-    sound-laid (started n k) (fresh n) f h (b .fragments) (fresh-agrees n k (b .some-fragments) (b .some-room))
+    sound-laid (started n k) (fresh n) f h (b .fragments) (fresh-agrees n k (b .some-fragments) (b .some-room)) (b .frag-long)
 
 -- 'Start (n, k) gives Building with nothing placed.'
-pub start-fresh : (n k : ℕ) (f h : List ℕ) → tablesIn (started n k) (fragOf n (fresh n) f) (heldOf n k (fresh n) h) ≡ fresh n
+pub start-fresh : (n k : ℕ) (f h : List ℕ) → tablesIn (started n k) (fragOf Building n (fresh n) f) (heldOf n k (fresh n) h) ≡ fresh n
 start-fresh = fresh-laid
 
 -- Two answers that meet start's promise are equal, and so are the tables that they leave.

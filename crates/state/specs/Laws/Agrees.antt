@@ -13,7 +13,7 @@ use Rattle.rules.specs.Tables.{Tables, parentOf, noteOf, markOf, placed, lev}
 use Rattle.rules.specs.Building.{done}
 use Rattle.rules.specs.Reading.{accepted}
 use Rattle.rules.specs.Laws.Facts.{Standing, Rested, Loose, Holding}
-use Rattle.state.specs.Test.{entriesMost, isBuilding, isBuilt, isReading, isRead, asked, stageFits, forestFits, endsFit, heldFits, notesFit, restZero, countsFit, readFits, restAgrees, fits}
+use Rattle.state.specs.Test.{entriesMost, isBuilding, isBuilt, isReading, isRead, asked, stageFits, forestFits, endsFit, heldFits, notesFit, restZero, countsFit, readFits, restAgrees, numbersFit, fits}
 use Rattle.state.specs.declared.State.{State}
 
 -- What a state and the tables t that go with it agree on.
@@ -57,7 +57,7 @@ pub record Clauses (s : State) (t : Tables) : Type 0 where
   pub read : T (readFits s t)
   pub rest : T (restAgrees s t)
 
-pub clauses : (s : State) (t : Tables) (f h : List ℕ) → T (fits s t f h) → Clauses s t × T (restZero s f h)
+pub clauses : (s : State) (t : Tables) (f h : List ℕ) → T (fits s t f h) → Clauses s t × T (restZero s f h) × T (numbersFit s t f)
 unfolding fits
 clauses s t f h x =
     let x2 = and-r (stageFits s t) _ x in
@@ -65,7 +65,8 @@ clauses s t f h x =
     let x4 = and-r (heldFits (s .n) (s .k) t) _ x3 in
     let x5 = and-r (notesFit s t) _ x4 in
     let x6 = and-r (restZero s f h) _ x5 in
-    let x7 = and-r (countsFit s t) _ x6 in (
+    let x7 = and-r (countsFit s t) _ x6 in
+    let x8 = and-r (readFits s t) _ x7 in (
       record {
         stage = and-l (stageFits s t) _ x;
         forest = and-l (forestFits (s .n) t) _ x2;
@@ -73,18 +74,20 @@ clauses s t f h x =
         notes = and-l (notesFit s t) _ x4;
         counts = and-l (countsFit s t) _ x6;
         read = and-l (readFits s t) _ x7;
-        rest = and-r (readFits s t) _ x7;
+        rest = and-l (restAgrees s t) _ x8;
       },
       and-l (restZero s f h) _ x5,
+      and-r (restAgrees s t) _ x8,
     )
 
-pub fits-made : (s : State) (t : Tables) (f h : List ℕ) → Clauses s t → T (restZero s f h) → T (fits s t f h)
+pub fits-made : (s : State) (t : Tables) (f h : List ℕ) → Clauses s t → T (restZero s f h) → T (numbersFit s t f) → T (fits s t f h)
 unfolding fits
-fits-made s t f h c z =
+fits-made s t f h c z x =
     and-intro (stageFits s t) _ (c .stage)
     (and-intro (forestFits (s .n) t) _ (c .forest)
     (and-intro (heldFits (s .n) (s .k) t) _ (c .held)
     (and-intro (notesFit s t) _ (c .notes)
     (and-intro (restZero s f h) _ z
     (and-intro (countsFit s t) _ (c .counts)
-    (and-intro (readFits s t) _ (c .read) (c .rest)))))))
+    (and-intro (readFits s t) _ (c .read)
+    (and-intro (restAgrees s t) _ (c .rest) x)))))))

@@ -18,10 +18,11 @@ use Rattle.rules.specs.Building.{done}
 use Rattle.rules.specs.Laws.Facts.{Standing, Rested, Loose}
 use Rattle.rules.specs.Laws.Step.{rested-underway}
 use Rattle.rules.specs.Laws.Tables.{rested-note, rested-mark, same-markOf, markOf-putMark-same, markOf-putMark-other, putMark-length}
-use Rattle.state.specs.Layout.{words, stored, tablesIn, fragOf, heldOf}
+use Rattle.state.specs.Layout.{words, tablesIn, fragOf, heldOf}
 use Rattle.state.specs.Test.{isBuilding, isRead, allZero, endsFit, restZero, sound}
 use Rattle.state.specs.Call.{boundsRefusal, Left, refused, headRefusal, headed}
 use Rattle.state.specs.Laws.Bounds.{Bounds, bounds-known, within-bounds}
+use Rattle.state.specs.Laws.Behind.{behind-made}
 use Rattle.state.specs.Laws.Lay.{frag-length, held-length}
 use Rattle.state.specs.Laws.Agrees.{fits-made}
 use Rattle.state.specs.Laws.Made.{clauses-made}
@@ -30,14 +31,15 @@ use Rattle.state.specs.declared.State.{State}
 use Rattle.state.specs.declared.Stage.{Stage}
 
 -- The facts are exactly what the test asks.
-sound-made : (s : State) (f h : List ℕ) → Sound s f h → T (sound s f h)
+sound-made : (s : State) (f h : List ℕ) → words * s .n ≤ length f → Sound s f h → T (sound s f h)
 unfolding sound restZero
-sound-made s f h S =
+sound-made s f h l S =
+    let (z, x) = behind-made s (tablesIn s f h) f l (S .back) in
     fits-made s (tablesIn s f h) f h (clauses-made s (tablesIn s f h) (S .agrees))
-    (and-intro (allZero (drop (s .held) (take (s .k * s .n) h))) (allZero (take ((words - stored) * s .n) (drop (stored * s .n) f))) (S .unused) (S .scratch))
+    (and-intro (allZero (drop (s .held) (take (s .k * s .n) h))) _ (S .unused) z) x
 
 pub sound-exact : (s : State) (f h : List ℕ) → Bounds (s .n) (s .k) (length f) (length h) → T (sound s f h) ↔ Sound s f h
-sound-exact s f h b = (sound-known s f h b, sound-made s f h)
+sound-exact s f h b = (sound-known s f h b, sound-made s f h (b .frag-long))
 
 -- 'passes this test': no refusal of 1, 2, 3 and 11 is due.
 pub record Passes (s : State) (f h : List ℕ) : Type 0 where
@@ -45,15 +47,15 @@ pub record Passes (s : State) (f h : List ℕ) : Type 0 where
   pub tested : T (sound s f h)
 
 -- Tables that agree with a state, laid out, pass the test.
-pub laid-passes : (s : State) (t : Tables) (f h : List ℕ) → Agrees s t → Bounds (s .n) (s .k) (length f) (length h) → Passes s (fragOf (s .n) t f) (heldOf (s .n) (s .k) t h)
+pub laid-passes : (s : State) (t : Tables) (f h : List ℕ) → Agrees s t → Bounds (s .n) (s .k) (length f) (length h) → Passes s (fragOf (s .stage) (s .n) t f) (heldOf (s .n) (s .k) t h)
 laid-passes s t f h a b =
     let S = a .standing in
     record {
       in-bounds = rw (
-        frag-length (s .n) t f (S .long-parent) (S .long-level) (S .long-note) (S .long-mark) (b .frag-long),
+        frag-length (s .stage) (s .n) t f (S .long-parent) (S .long-level) (S .long-note) (S .long-mark) (b .frag-long),
         held-length (s .n) (s .k) t h (omega (arith, a .as-many, a .held-room)) (b .held-long),
       ) (sym (within-bounds (s .n) (s .k) (length f) (length h) (omega arith) (b .fragments) (omega arith) (b .room) (b .frag-long) (b .held-long)));
-      tested = sound-laid s t f h (b .fragments) a;
+      tested = sound-laid s t f h (b .fragments) a (b .frag-long);
     }
 
 -- What the head of a call gives where it refuses nothing.

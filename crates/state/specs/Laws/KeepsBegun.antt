@@ -38,7 +38,7 @@ given-same e = cc
 -- Begun where no refusal is due.
 abbrev begun : ℕ → State → Tables → List ℕ → List ℕ → Begun
 begun r s t f h =
-    pick (eqb r 0) (record { answer = gives s; frag = fragOf (s .n) t f; held = heldOf (s .n) (s .k) t h }) (record { answer = refuses r 0; frag = f; held = h })
+    pick (eqb r 0) (record { answer = gives s; frag = fragOf (s .stage) (s .n) t f; held = heldOf (s .n) (s .k) t h }) (record { answer = refuses r 0; frag = f; held = h })
 
 -- A call answers with the state s, and leaves words that hold the tables t.
 abbrev pub MakesState : Begun → State → Tables → Type 0
@@ -53,7 +53,7 @@ begins r s t f h ok = elim (ℕ-discrete r 0) [
   | yes e ↦
       let (b, a) = ok e in
       rw (eq-eqb r 0 e, pick-true) (record {
-        keeps = λ s′ x. subst (λ (y : State). Passes y (fragOf (s .n) t f) (heldOf (s .n) (s .k) t h)) (given-same x) (laid-passes s t f h a b);
+        keeps = λ s′ x. subst (λ (y : State). Passes y (fragOf (s .stage) (s .n) t f) (heldOf (s .n) (s .k) t h)) (given-same x) (laid-passes s t f h a b);
         same = λ number place x. absurd (never-both refl x);
       })
   | no d ↦ rw (ne-eqb r 0 d, pick-false) (record { keeps = λ s′ x. absurd (never-both x refl); same = λ number place x. (refl, refl) })

@@ -80,7 +80,7 @@ module _ {A : Type 0} (s : State) (f h : List ℕ) where
     unfolding leaves moved
     leaves-upholds x = stands-upholds (leaves x (moved g p e t s) t f h) (laid-passes (moved g p e t s) t f h a b) (λ number place d e. never-both refl e)
 
-    false-upholds : Upholds {A = A} s f h (record { answer = refuses 9 0; state = moved g p e t s; frag = fragOf (s .n) t f; held = heldOf (s .n) (s .k) t h })
+    false-upholds : Upholds {A = A} s f h (record { answer = refuses 9 0; state = moved g p e t s; frag = fragOf g (s .n) t f; held = heldOf (s .n) (s .k) t h })
     unfolding moved
     false-upholds = stands-upholds _ (laid-passes (moved g p e t s) t f h a b) (λ number place d e. d (sym (number-same e)))
 

@@ -10,38 +10,40 @@ use lib.Seq.{drop-drop, drop-at, take-at}
 use Rattle.base.specs.Truth.{and-intro}
 use Rattle.rules.specs.Links.{linked}
 use Rattle.rules.specs.Tables.{Tables}
-use Rattle.state.specs.Layout.{words, stored, radix, section, linkIn, wordOf, tablesIn, fragOf, heldOf}
-use Rattle.state.specs.Test.{allZero, restZero}
+use Rattle.state.specs.Layout.{words, stored, radix, section, linkIn, wordOf, tablesIn, behind, fragOf, heldOf}
+use Rattle.state.specs.Test.{allZero}
 use Rattle.state.specs.Laws.Lists.{length-map, parts, all-zeros, zeros-between, zeros-pass}
 use Rattle.state.specs.Laws.Words.{words-links, links-words}
 use Rattle.state.specs.Laws.Layout.{tables-are}
+use Rattle.state.specs.Laws.Behind.{section-first, section-next, drop-next, rest, behind-length}
 use Rattle.state.specs.declared.State.{State}
+use Rattle.state.specs.declared.Stage.{Stage}
 
--- The fragment table is its sections, its scratch and the words past its end.
-frag-parts : (n : ℕ) (f : List ℕ) → words * n ≤ length f → T (allZero (take ((words - stored) * n) (drop (stored * n) f)))
-    → f ≡ section n 0 f ++ (section n 1 f ++ (section n 2 f ++ (section n 3 f ++ (replicate ((words - stored) * n) 0 ++ drop (words * n) f))))
+-- The fragment table is its sections, what lies behind them and the words past its end.
+frag-parts : (n : ℕ) (f : List ℕ) → words * n ≤ length f
+    → f ≡ section n 0 f ++ (section n 1 f ++ (section n 2 f ++ (section n 3 f ++ (rest n f ++ drop (words * n) f))))
 unfolding section
-frag-parts n f l z =
+frag-parts n f l =
     let none : 0 ≡ 0 * n = omega arith in
     ap (λ a. drop a f) none ∙ parts (0 * n) n (1 * n) f (omega arith) ∙ ap (λ r. take n (drop (0 * n) f) ++ r)
     (parts (1 * n) n (2 * n) f (omega arith) ∙ ap (λ r. take n (drop (1 * n) f) ++ r)
     (parts (2 * n) n (3 * n) f (omega arith) ∙ ap (λ r. take n (drop (2 * n) f) ++ r)
     (parts (3 * n) n (4 * n) f (omega arith) ∙ ap (λ r. take n (drop (3 * n) f) ++ r)
-    (parts (4 * n) (12 * n) (16 * n) f (omega arith) ∙ rw (all-zeros (take (12 * n) (drop (4 * n) f)) (12 * n) (simp (length-take, length-drop) (omega arith)) z)))))
+    (parts (4 * n) (12 * n) (16 * n) f (omega arith)))))
 
--- The fragment table, from its scratch and the words past its end.
+-- The fragment table, from what lies behind its sections and the words past its end.
 pub frag-laid : (s : State) (f f′ h′ : List ℕ) (t : Tables) → tablesIn s f′ h′ ≡ t → words * s .n ≤ length f′
-    → T (allZero (take ((words - stored) * s .n) (drop (stored * s .n) f′))) → drop (words * s .n) f′ ≡ drop (words * s .n) f
-    → f′ ≡ fragOf (s .n) t f
+    → rest (s .n) f′ ≡ behind (s .stage) (s .n) t → drop (words * s .n) f′ ≡ drop (words * s .n) f
+    → f′ ≡ fragOf (s .stage) (s .n) t f
 unfolding fragOf tablesIn
-frag-laid s f f′ h′ t e l z k = rw (← e, ← k) (frag-parts (s .n) f′ l z)
+frag-laid s f f′ h′ t e l z k = frag-parts (s .n) f′ l ∙ rw (← e, ← k) (ap (λ r. section (s .n) 0 f′ ++ (section (s .n) 1 f′ ++ (section (s .n) 2 f′ ++ (section (s .n) 3 f′ ++ (r ++ drop (words * s .n) f′))))) (z ∙ ap (behind (s .stage) (s .n)) (sym e)))
 
--- The same where nothing but the stored sections changed.
+-- The same where nothing but the sections of every stage changed.
 pub frag-kept : (s : State) (f f′ h′ : List ℕ) (t : Tables) → tablesIn s f′ h′ ≡ t → words * s .n ≤ length f′
-    → T (allZero (take ((words - stored) * s .n) (drop (stored * s .n) f))) → drop (stored * s .n) f′ ≡ drop (stored * s .n) f
-    → f′ ≡ fragOf (s .n) t f
+    → rest (s .n) f ≡ behind (s .stage) (s .n) t → drop (stored * s .n) f′ ≡ drop (stored * s .n) f
+    → f′ ≡ fragOf (s .stage) (s .n) t f
 frag-kept s f f′ h′ t e l z k =
-    frag-laid s f f′ h′ t e l (rw k z) (past f′ ∙ ap (λ r. drop ((words - stored) * s .n) r) k ∙ sym (past f))
+    frag-laid s f f′ h′ t e l (ap (λ r. take ((words - stored) * s .n) r) k ∙ z) (past f′ ∙ ap (λ r. drop ((words - stored) * s .n) r) k ∙ sym (past f))
   where
     past : (g : List ℕ) → drop (words * s .n) g ≡ drop ((words - stored) * s .n) (drop (stored * s .n) g)
     past g = let e : words * s .n ≡ stored * s .n + (words - stored) * s .n = omega arith in ap (λ i. drop i g) e ∙ sym (drop-drop ((words - stored) * s .n) (stored * s .n) g)
@@ -55,24 +57,10 @@ held-laid s f′ h h′ t e b l z k =
     let m : length (map linkIn (take (s .held) h′)) ≡ s .held = length-map linkIn (take (s .held) h′) ∙ simp length-take (omega arith) in
     rw (← e, ← k, words-links, m) (zeros-between (s .held) (s .k * s .n) h′ b l z)
 
--- Parts laid one behind the other: the first section, and what lies behind it.
-section-first : (n : ℕ) (p q : List ℕ) → length p ≡ n → section n 0 (p ++ q) ≡ p
-unfolding section
-section-first n p q e = let z : 0 * n ≡ 0 = omega arith in rw z (take-at p q n e)
-
-drop-next : (n j : ℕ) (p q : List ℕ) → length p ≡ n → drop (suc j * n) (p ++ q) ≡ drop (j * n) q
-drop-next n j p q e =
-    let z : suc j * n ≡ n + j * n = omega arith in
-    ap (λ i. drop i (p ++ q)) z ∙ sym (drop-drop (j * n) n (p ++ q)) ∙ ap (λ r. drop (j * n) r) (drop-at p q n e)
-
-section-next : (n j : ℕ) (p q : List ℕ) → length p ≡ n → section n (suc j) (p ++ q) ≡ section n j q
-unfolding section
-section-next n j p q e = ap (λ r. take n r) (drop-next n j p q e)
-
 -- What is laid out is found again.
 pub tables-laid : (s : State) (t : Tables) (f h : List ℕ) → length (t .parent) ≡ s .n → length (t .level) ≡ s .n → length (t .note) ≡ s .n → length (t .mark) ≡ s .n
     → s .held ≡ length (t .held) → ((u v : ℕ) → T (linked (t .held) u v) → v < radix) → s .crossed ≡ t .crossed
-    → tablesIn s (fragOf (s .n) t f) (heldOf (s .n) (s .k) t h) ≡ t
+    → tablesIn s (fragOf (s .stage) (s .n) t f) (heldOf (s .n) (s .k) t h) ≡ t
 unfolding fragOf heldOf
 tables-laid s t f h p l o m e b c =
     tables-are s _ _ t
@@ -83,35 +71,27 @@ tables-laid s t f h p l o m e b c =
     (ap (map linkIn) (take-at (map wordOf (t .held)) _ (s .held) (length-map wordOf (t .held) ∙ sym e)) ∙ links-words (t .held) b)
     c
 
--- Scratch and unused held words are 0 in what is laid out.
-scratch-laid : (n : ℕ) (t : Tables) (f : List ℕ) → length (t .parent) ≡ n → length (t .level) ≡ n → length (t .note) ≡ n → length (t .mark) ≡ n
-    → T (allZero (take ((words - stored) * n) (drop (stored * n) (fragOf n t f))))
+-- What lies behind the sections, and that unused held words are 0, in what is laid out.
+pub behind-laid : (g : Stage) (n : ℕ) (t : Tables) (f : List ℕ) → length (t .parent) ≡ n → length (t .level) ≡ n → length (t .note) ≡ n → length (t .mark) ≡ n
+    → rest n (fragOf g n t f) ≡ behind g n t
 unfolding fragOf
-scratch-laid n t f p l o m =
+behind-laid g n t f p l o m =
     let z : 0 * n ≡ 0 = omega arith in
-    let e : drop (4 * n) (fragOf n t f) ≡ replicate (12 * n) 0 ++ drop (16 * n) f =
-    drop-next n 3 (t .parent) _ p ∙ drop-next n 2 (t .level) _ l ∙ drop-next n 1 (t .note) _ o ∙ drop-next n 0 (t .mark) _ m ∙ ap (λ i. drop i (replicate (12 * n) 0 ++ drop (16 * n) f)) z in
-    rw (e, take-at (replicate (12 * n) 0) (drop (16 * n) f) (12 * n) (length-replicate (12 * n) 0)) (zeros-pass (12 * n))
+    let e : drop (4 * n) (fragOf g n t f) ≡ behind g n t ++ drop (16 * n) f =
+    drop-next n 3 (t .parent) _ p ∙ drop-next n 2 (t .level) _ l ∙ drop-next n 1 (t .note) _ o ∙ drop-next n 0 (t .mark) _ m ∙ ap (λ i. drop i (behind g n t ++ drop (16 * n) f)) z in
+    rw (e, take-at (behind g n t) (drop (16 * n) f) (12 * n) (behind-length n t g))
 
-unused-laid : (n k : ℕ) (t : Tables) (h : List ℕ) (m : ℕ) → m ≡ length (t .held) → m ≤ k * n → T (allZero (drop m (take (k * n) (heldOf n k t h))))
+pub unused-laid : (n k : ℕ) (t : Tables) (h : List ℕ) (m : ℕ) → m ≡ length (t .held) → m ≤ k * n → T (allZero (drop m (take (k * n) (heldOf n k t h))))
 unfolding heldOf
 unused-laid n k t h m e b =
     let d : length (map wordOf (t .held)) ≡ m = length-map wordOf (t .held) ∙ sym e in
     rw (← append-assoc, ← e, take-at (map wordOf (t .held) ++ replicate (k * n - m) 0) (drop (k * n) h) (k * n) (simp (length-append, length-replicate, d) (omega arith)), drop-at (map wordOf (t .held)) (replicate (k * n - m) 0) m d) (zeros-pass (k * n - m))
 
-pub rest-laid : (s : State) (t : Tables) (f h : List ℕ) → length (t .parent) ≡ s .n → length (t .level) ≡ s .n → length (t .note) ≡ s .n → length (t .mark) ≡ s .n
-    → s .held ≡ length (t .held) → s .held ≤ s .k * s .n → T (restZero s (fragOf (s .n) t f) (heldOf (s .n) (s .k) t h))
-unfolding restZero
-rest-laid s t f h p l o m e b =
-    and-intro (allZero (drop (s .held) (take (s .k * s .n) (heldOf (s .n) (s .k) t h)))) (allZero (take (12 * s .n) (drop (4 * s .n) (fragOf (s .n) t f))))
-    (unused-laid (s .n) (s .k) t h (s .held) e b)
-    (scratch-laid (s .n) t f p l o m)
-
 -- What is laid out is as long as what stood there.
-pub frag-length : (n : ℕ) (t : Tables) (f : List ℕ) → length (t .parent) ≡ n → length (t .level) ≡ n → length (t .note) ≡ n → length (t .mark) ≡ n
-    → words * n ≤ length f → length (fragOf n t f) ≡ length f
+pub frag-length : (g : Stage) (n : ℕ) (t : Tables) (f : List ℕ) → length (t .parent) ≡ n → length (t .level) ≡ n → length (t .note) ≡ n → length (t .mark) ≡ n
+    → words * n ≤ length f → length (fragOf g n t f) ≡ length f
 unfolding fragOf
-frag-length n t f p l o m b = simp (length-append, length-replicate, length-drop) (omega arith)
+frag-length g n t f p l o m b = simp (length-append, behind-length, length-drop) (omega arith)
 
 pub held-length : (n k : ℕ) (t : Tables) (h : List ℕ) → length (t .held) ≤ k * n → k * n ≤ length h → length (heldOf n k t h) ≡ length h
 unfolding heldOf

@@ -17,10 +17,12 @@ use Rattle.state.specs.Start.{started, startCall}
 use Rattle.state.specs.Answers.{begunTold}
 use Rattle.state.specs.Laws.Lists.{zeros}
 use Rattle.state.specs.Laws.Clear.{wiped-is}
+use Rattle.state.specs.Laws.Behind.{behind-plain}
 use Rattle.state.specs.Laws.Lay.{tables-laid}
 use Rattle.state.specs.Laws.Sound.{Agrees}
 use Rattle.state.specs.Laws.Keeps.{rested-agrees}
 use Rattle.state.specs.declared.State.{State}
+use Rattle.state.specs.declared.Stage.the-variants.{Building}
 use Rattle.state.specs.declared.Started.{Started}
 use Rattle.state.specs.declared.Started.the-variants.{Ready, Refused}
 
@@ -28,14 +30,14 @@ use Rattle.state.specs.declared.Started.the-variants.{Ready, Refused}
 first-wiped : (m : ℕ) (l : List ℕ) → m ≤ length l → wiped 0 m l ≡ replicate m 0 ++ drop m l
 first-wiped m l h = let e : m - 0 ≡ m = omega arith in wiped-is 0 m l (omega arith) h ∙ ap (λ i. replicate i 0 ++ drop m l) e
 
-pub frag-fresh : (n : ℕ) (f : List ℕ) → words * n ≤ length f → wiped 0 (words * n) f ≡ fragOf n (fresh n) f
+pub frag-fresh : (n : ℕ) (f : List ℕ) → words * n ≤ length f → wiped 0 (words * n) f ≡ fragOf Building n (fresh n) f
 unfolding fragOf fresh
 frag-fresh n f h =
     first-wiped (16 * n) f h ∙
     zeros n (15 * n) (16 * n) (drop (16 * n) f) (omega arith) ∙ ap (λ l. replicate {A = ℕ} n 0 ++ l)
     (zeros n (14 * n) (15 * n) (drop (16 * n) f) (omega arith) ∙ ap (λ l. replicate {A = ℕ} n 0 ++ l)
     (zeros n (13 * n) (14 * n) (drop (16 * n) f) (omega arith) ∙ ap (λ l. replicate {A = ℕ} n 0 ++ l)
-    (zeros n (12 * n) (13 * n) (drop (16 * n) f) (omega arith))))
+    (zeros n (12 * n) (13 * n) (drop (16 * n) f) (omega arith) ∙ ap (λ l. replicate {A = ℕ} n 0 ++ (l ++ drop (16 * n) f)) (sym (behind-plain n (fresh n) Building (λ b. b))))))
 
 pub held-fresh : (n k : ℕ) (h : List ℕ) → k * n ≤ length h → wiped 0 (k * n) h ≡ heldOf n k (fresh n) h
 unfolding heldOf fresh
@@ -47,7 +49,7 @@ module _ (n k : ℕ) (f h : List ℕ) where
   unfolding startCall
   start-refused r e p = rw (← e) (simp tests)
 
-  pub start-ready : boundsRefusal n k (length f) (length h) ≡ 0 → (s : State) → s ≡ started n k → (f′ h′ : List ℕ) → f′ ≡ fragOf n (fresh n) f → h′ ≡ heldOf n k (fresh n) h → begunTold (Ready s) f′ h′ ≡ startCall n k f h
+  pub start-ready : boundsRefusal n k (length f) (length h) ≡ 0 → (s : State) → s ≡ started n k → (f′ h′ : List ℕ) → f′ ≡ fragOf Building n (fresh n) f → h′ ≡ heldOf n k (fresh n) h → begunTold (Ready s) f′ h′ ≡ startCall n k f h
   unfolding startCall
   start-ready e s a f′ h′ p q = rw (e, a, p, q) (simp tests)
 
@@ -62,7 +64,7 @@ fresh-agrees n k p q =
     rested-agrees (started n k) (fresh n) (fresh-standing n) (fresh-rested n) q refl refl refl (omega arith) (λ v l e. no-parent n v)
     (λ b t. placed-loose (fresh n) 0 (every-at (placed (fresh n)) n t 0 p) (fresh-loose n 0)) (λ b. absurd (b tt)) (λ b. b)
 
-pub fresh-laid : (n k : ℕ) (f h : List ℕ) → tablesIn (started n k) (fragOf n (fresh n) f) (heldOf n k (fresh n) h) ≡ fresh n
+pub fresh-laid : (n k : ℕ) (f h : List ℕ) → tablesIn (started n k) (fragOf Building n (fresh n) f) (heldOf n k (fresh n) h) ≡ fresh n
 unfolding fresh
 fresh-laid n k f h =
     let l : length (replicate {A = ℕ} n 0) ≡ n = length-replicate n 0 in
