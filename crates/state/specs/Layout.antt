@@ -5,7 +5,7 @@ use mathlib.Core.Path.{_≡_}
 use mathlib.Core.Bool.{Bool, false, _&&_}
 use mathlib.Core.List.{List, [], _++_, map}
 use lib.ListN.{length, getD, take, drop, replicate}
-use lib.Dec.{ltb}
+use lib.Dec.{leb, ltb}
 use Rattle.base.specs.Pick.{pick}
 use Rattle.base.specs.Link.{Link}
 use Rattle.rules.specs.Search.{table}
@@ -52,6 +52,10 @@ endIn n f v = getD (section n 5 f) v 0
 
 abbrev pub whoseIn : ℕ → List ℕ → ℕ → ℕ
 whoseIn n f i = getD (section n 6 f) i 0
+
+-- By these words b comes at a's turn or behind it, and before those below a end.
+unfoldable pub aboveIn : ℕ → List ℕ → ℕ → ℕ → Bool
+aboveIn n f a b = leb (turnIn n f a) (turnIn n f b) && ltb (turnIn n f b) (endIn n f a)
 
 -- A held link in a word: the smaller end in the high part.
 abbrev pub radix : ℕ

@@ -1,5 +1,4 @@
 -- The lemmas that the proofs of the code rest on.
 -- Assumes nothing.
 pub mod Sections
-pub mod Climb
 pub mod Links

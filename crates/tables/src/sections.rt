@@ -2,9 +2,9 @@
 ghost use Prim.Native.Nat.{_<_, _≤_};
 ghost use mathlib.Core.Path.{_≡_};
 ghost use lib.ListN.{getD};
-ghost use Rattle.rules.specs.Tables.{parentOf, rank, noteOf, markOf};
+ghost use Rattle.rules.specs.Tables.{parentOf, rank, noteOf, markOf, par, lev};
 ghost use Rattle.rules.specs.Building.{better};
-ghost use Rattle.state.specs.Layout.{section, forestIn, Says};
+ghost use Rattle.state.specs.Layout.{section, forestIn, turnIn, endIn, whoseIn, aboveIn, Says};
 use state::wide;
 
 pub const PARENT: usize = 0;
@@ -16,12 +16,22 @@ pub const NOTE: usize = 2;
 
 pub const MARK: usize = 3;
 
-// So many sections are stored; the others are scratch.
+// So many sections are stored in every stage.
 pub const STORED: usize = 4;
+
+// The numbers of the forest, which are stored in Reading and Read.
+pub const TURN: usize = 4;
+
+pub const END: usize = 5;
+
+pub const WHOSE: usize = 6;
+
+// The first section that is scratch in every stage.
+pub const SCRATCH: usize = 7;
 
 // Word v of a section behind the first.
 fn word_at(frag: &[u32], n: usize, j: usize, v: usize) -> usize
-    requires { ⌜ (0 < j) × (j ≤ 3) ⌝ }
+    requires { ⌜ (0 < j) × (j ≤ 6) ⌝ }
     ensures { λ r. ⌜ Says r (getD (section n j (now (frag .entry))) v 0) ⌝ }
 {
     if n <= v {
@@ -66,6 +76,58 @@ pub fn mark_at(frag: &[u32], n: usize, v: usize) -> usize
     ensures { λ r. ⌜ Says r (markOf (forestIn n (now (frag .entry))) v) ⌝ }
 {
     word_at(frag, n, MARK, v)
+}
+
+// The parent and the level in the forest that stands: an unplaced fragment counts as a root by itself.
+pub fn parent_of(frag: &[u32], n: usize, v: usize) -> usize
+    ensures { λ r. ⌜ r ≡ par (forestIn n (now (frag .entry))) v ⌝ }
+{
+    if rank_at(frag, n, v) == 0 {
+        return v;
+    }
+    parent_at(frag, n, v)
+}
+
+pub fn level_of(frag: &[u32], n: usize, v: usize) -> usize
+    ensures { λ r. ⌜ r ≡ lev (forestIn n (now (frag .entry))) v ⌝ }
+{
+    let rank = rank_at(frag, n, v);
+    if rank == 0 {
+        return 0;
+    }
+    rank - 1
+}
+
+// The turn of v in depth-first order.
+pub fn turn_at(frag: &[u32], n: usize, v: usize) -> usize
+    ensures { λ r. ⌜ Says r (turnIn n (now (frag .entry)) v) ⌝ }
+{
+    word_at(frag, n, TURN, v)
+}
+
+// Where those below v end: the turn of the next one that is not below it.
+pub fn end_at(frag: &[u32], n: usize, v: usize) -> usize
+    ensures { λ r. ⌜ Says r (endIn n (now (frag .entry)) v) ⌝ }
+{
+    word_at(frag, n, END, v)
+}
+
+// The fragment whose turn is i.
+pub fn whose_at(frag: &[u32], n: usize, i: usize) -> usize
+    ensures { λ r. ⌜ Says r (whoseIn n (now (frag .entry)) i) ⌝ }
+{
+    word_at(frag, n, WHOSE, i)
+}
+
+// Whether b comes at a's turn or behind it, and before those below a end.
+pub fn is_above(frag: &[u32], n: usize, a: usize, b: usize) -> bool
+    ensures { λ r. ⌜ r ≡ aboveIn n (now (frag .entry)) a b ⌝ }
+{
+    let turn = turn_at(frag, n, b);
+    if turn < turn_at(frag, n, a) {
+        return false;
+    }
+    turn < end_at(frag, n, a)
 }
 
 // B2: of two notes the better.

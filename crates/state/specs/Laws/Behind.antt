@@ -105,10 +105,11 @@ module _ (s : State) (t : Tables) (f : List ℕ) where
   unfolding numbersFit numberedAt
   numbers-known b x v l =
       let y = every-at (numberedAt n t f) n (asked-use (isNumbered (s .stage)) _ x b) v l in
-      let z = and-r (eqb (turnIn n f v) (turn n t v)) _ y in
-      (eqb→eq (turnIn n f v) (turn n t v) (and-l (eqb (turnIn n f v) (turn n t v)) _ y),
-       eqb→eq (endIn n f v) (end n t v) (and-l (eqb (endIn n f v) (end n t v)) _ z),
-       eqb→eq (whoseIn n f v) (atTurn n t v) (and-r (eqb (endIn n f v) (end n t v)) _ z))
+      let z = and-r (eqb (turnIn n f v) (turn n t v)) _ y in (
+        eqb→eq (turnIn n f v) (turn n t v) (and-l (eqb (turnIn n f v) (turn n t v)) _ y),
+        eqb→eq (endIn n f v) (end n t v) (and-l (eqb (endIn n f v) (end n t v)) _ z),
+        eqb→eq (whoseIn n f v) (atTurn n t v) (and-r (eqb (endIn n f v) (end n t v)) _ z),
+      )
 
   numbers-made : (T (isNumbered (s .stage)) → Numbers) → T (numbersFit s t f)
   unfolding numbersFit numberedAt
@@ -190,10 +191,11 @@ module _ (s : State) (t : Tables) (f : List ℕ) where
           ∙ past-three n (table (turn n t) n) (table (end n t) n) (table (atTurn n t) n) _ (table-length (turn n t) n) (table-length (end n t) n) (table-length (atTurn n t) n)
 
       pub words-numbers : Numbers
-      words-numbers v l =
-          (ap (λ r. getD r v 0) turns ∙ table-at (turn n t) n v 0 l,
-           ap (λ r. getD r v 0) ends ∙ table-at (end n t) n v 0 l,
-           ap (λ r. getD r v 0) whose ∙ table-at (atTurn n t) n v 0 l)
+      words-numbers v l = (
+        ap (λ r. getD r v 0) turns ∙ table-at (turn n t) n v 0 l,
+        ap (λ r. getD r v 0) ends ∙ table-at (end n t) n v 0 l,
+        ap (λ r. getD r v 0) whose ∙ table-at (atTurn n t) n v 0 l,
+      )
 
     pub behind-made : rest n f ≡ behind (s .stage) n t → T (allZero free) × T (numbersFit s t f)
     behind-made e = (

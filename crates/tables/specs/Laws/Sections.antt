@@ -1,15 +1,18 @@
--- A word of a section, within the table and past it; the better of two notes; the ends of a held link.
+-- A word of a section, within the table and past it; what the words say; the better of two notes; the ends of a held link.
 -- Assumes nothing.
 use Prim.Native.Nat.{ℕ, pred, _+_, _-_, _*_, _≤_, _<_}
 use mathlib.Core.Path.{_≡_, refl, sym, _∙_}
+use mathlib.Core.Bool.{false}
 use mathlib.Core.List.{List}
 use native.Mathlib.Omega.{arith}
 use native.Mathlib.Nat.{mul-le-mul-right}
+use lib.Dec.{ltb}
+use borrow.Author.Tests.{lt-ltb}
 use lib.ListN.{length, getD, length-take, length-drop, List·getD-eq-default}
 use Rattle.base.specs.Pick.{pick-all, tests}
-use Rattle.rules.specs.Tables.{Tables, rank}
+use Rattle.rules.specs.Tables.{Tables, rank, parentOf, placed, par, lev}
 use Rattle.rules.specs.Building.{better}
-use Rattle.state.specs.Layout.{section, linkIn, heldLink, Says}
+use Rattle.state.specs.Layout.{section, turnIn, endIn, aboveIn, linkIn, heldLink, Says}
 use Rattle.state.specs.Laws.Layout.{section-at}
 
 module _ (n j : ℕ) (f : List ℕ) (v : ℕ) where
@@ -30,6 +33,30 @@ module _ (n j : ℕ) (f : List ℕ) (v : ℕ) where
 
   pub word-there : v < n → (i r : ℕ) → i ≡ j * n + v → Says r (getD f i 0) → Says r (getD (section n j f) v 0)
   word-there l i r e s = record { says = s .says ∙ section-at n f j i v e l; small = s .small }
+
+-- The parent and the level of a fragment by its words.
+module _ (t : Tables) (v r : ℕ) (er : r ≡ rank t v) where
+  pub parent-loose : r ≡ 0 → v ≡ par t v
+  unfolding par placed
+  parent-loose e = rw (← er, e)
+
+  pub parent-placed : (r ≡ 0 → ⊥) → (p : ℕ) → p ≡ parentOf t v → p ≡ par t v
+  unfolding par placed
+  parent-placed d p e = let o : 0 < r = omega arith in rw (← er, lt-ltb 0 r o, e)
+
+  pub level-is : (l : ℕ) → l ≡ pred r → l ≡ lev t v
+  unfolding lev
+  level-is l e = rw (← er, e)
+
+-- By their turns.
+module _ (n : ℕ) (f : List ℕ) (a b x y : ℕ) (ex : x ≡ turnIn n f a) (ey : y ≡ turnIn n f b) where
+  pub above-before : y < x → false ≡ aboveIn n f a b
+  unfolding aboveIn
+  above-before l = rw (← ex, ← ey) (simp tests)
+
+  pub above-ends : x ≤ y → (e : ℕ) → e ≡ endIn n f a → ltb y e ≡ aboveIn n f a b
+  unfolding aboveIn
+  above-ends l e q = rw (← ex, ← ey, ← q) (simp tests)
 
 -- B2. Of two notes the better, by their levels.
 module _ (t : Tables) (old new : ℕ) where

@@ -15,10 +15,10 @@ returns-2 : tie.Need-returns-2
 returns-2 c = word-short _ _ _ _ (c .before .before .before .pre .0) (omega arith)
 
 mul-i : tie.Need-mul-i
-mul-i c = let a = c .before .before .before .args in omega (arith, mul-le-mul-right {m = a .j} {n = 3} (a .n) (c .before .before .before .pre .1))
+mul-i c = let a = c .before .before .before .args in omega (arith, mul-le-mul-right {m = a .j} {n = 6} (a .n) (c .before .before .before .pre .1))
 
 add-i : tie.Need-add-i
-add-i c = let a = c .before .before .before .args in omega (arith, mul-le-mul-right {m = a .j} {n = 3} (a .n) (c .before .before .before .pre .1))
+add-i c = let a = c .before .before .before .args in omega (arith, mul-le-mul-right {m = a .j} {n = 6} (a .n) (c .before .before .before .pre .1))
 
 returns-3 : tie.Need-returns-3
 returns-3 c = word-past _ _ _ _ (omega arith)

@@ -1,10 +1,10 @@
--- `tables::climb::level_of` meets its contract.
+-- `tables::sections::level_of` meets its contract.
 -- Assumes nothing.
 use native.Mathlib.Omega.{arith}
-use Rattle.tables.specs.Laws.Climb.{level-is}
+use Rattle.tables.specs.Laws.Sections.{level-is}
 use borrow.Author.Needs.{needs}
-use Rattle.tables.proofs.climb.level_of.Statement.{statement}
-use Rattle.tables.proofs.climb.level_of.Tie as tie
+use Rattle.tables.proofs.sections.level_of.Statement.{statement}
+use Rattle.tables.proofs.sections.level_of.Tie as tie
 
 returns : tie.Need-returns
 returns c = level-is _ _ _ (c .before .rank-at .ensures .says) _ (omega arith)

@@ -1,10 +1,10 @@
--- `tables::climb::parent_of` meets its contract.
+-- `tables::sections::parent_of` meets its contract.
 -- Assumes nothing.
 use native.Mathlib.Omega.{arith}
-use Rattle.tables.specs.Laws.Climb.{parent-loose, parent-placed}
+use Rattle.tables.specs.Laws.Sections.{parent-loose, parent-placed}
 use borrow.Author.Needs.{needs}
-use Rattle.tables.proofs.climb.parent_of.Statement.{statement}
-use Rattle.tables.proofs.climb.parent_of.Tie as tie
+use Rattle.tables.proofs.sections.parent_of.Statement.{statement}
+use Rattle.tables.proofs.sections.parent_of.Tie as tie
 
 returns : tie.Need-returns
 returns c = parent-loose _ _ _ (c .before .rank-at .ensures .says) (omega arith)

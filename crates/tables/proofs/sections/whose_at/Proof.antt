@@ -1,0 +1,11 @@
+-- `tables::sections::whose_at` meets its contract.
+-- Assumes nothing.
+use borrow.Author.Needs.{needs}
+use Rattle.tables.proofs.sections.whose_at.Statement.{statement}
+use Rattle.tables.proofs.sections.whose_at.Tie as tie
+
+returns : tie.Need-returns
+returns c = c .word-at .ensures
+
+pub whose-at-spec : {M : Type 1} → statement M
+whose-at-spec = tie.close (tie.spec (λ c κs. search needs) returns)
