@@ -33,3 +33,7 @@ pub mod Adopting
 pub mod Append
 pub mod MetReading
 pub mod Method
+pub mod Pigeons
+pub mod Row
+pub mod Numbers
+pub mod Fits
