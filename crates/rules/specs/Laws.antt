@@ -37,3 +37,4 @@ pub mod Pigeons
 pub mod Row
 pub mod Numbers
 pub mod Fits
+pub mod Numbered

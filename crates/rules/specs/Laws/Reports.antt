@@ -51,7 +51,7 @@ accepted-facts n t = (
   (λ (f, c). and-intro (not (t .crossed)) (every (seen t) n) (not-T (t .crossed) f) (every-intro (seen t) n (λ v h. cases-seen t v (c v h)))),
 )
 
-child-facts : (t : Tables) (v c : ℕ) → T (childOf t v c) ↔ ((par t c ≡ v) × (c ≢ v))
+pub child-facts : (t : Tables) (v c : ℕ) → T (childOf t v c) ↔ ((par t c ≡ v) × (c ≢ v))
 unfolding childOf
 child-facts t v c =
     let a = eqb (par t c) v in

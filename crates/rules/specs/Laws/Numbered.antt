@@ -1,0 +1,80 @@
+-- Words that fit are the numbers of the forest.
+-- Assumes nothing.
+use Prim.Native.Nat.{ℕ, zero, suc, _+_, _-_, _≤_, _<_}
+use mathlib.Core.Path.{_≡_, refl, sym, ap, _∙_, subst}
+use mathlib.Core.Bool.{Bool}
+use mathlib.Core.Logic.{_⊎_, inl, inr, _≢_, _↔_}
+use native.Mathlib.Omega.{arith}
+use native.Mathlib.Decide.{ℕ-discrete, decLt, decLe}
+use lib.Dec.{T, eqb, eqb→eq}
+use borrow.Author.Tests.{eq-eqb, ne-eqb}
+use Rattle.base.specs.Pick.{pick, pick-true, pick-false}
+use Rattle.base.specs.Truth.{T-dec, T-true, T-false, eq→eqb}
+use Rattle.rules.specs.Forest.{Levels, Over}
+use Rattle.rules.specs.Search.{sum}
+use Rattle.rules.specs.Tables.{Tables, par, lev}
+use Rattle.rules.specs.Reading.{childOf}
+use Rattle.rules.specs.Numbers.{below, belowIf, beside, passed, turn, end, atTurn}
+use Rattle.rules.specs.Laws.Up.{par-in, root-lev, child-lev, over-refl, over-par, over-trans, over-same}
+use Rattle.rules.specs.Laws.Reports.{child-facts}
+use Rattle.rules.specs.Laws.Pigeons.{pigeons}
+use Rattle.rules.specs.Laws.Row.{Row, sizeIf, row-end, row-cover, row-begins, row-sum}
+use Rattle.rules.specs.Laws.Fits.{Under, NextRoot, FitsAt, NumberedAt}
+use Rattle.rules.specs.Laws.Numbers.{below-children, turn-root, turn-child, at-turn}
+
+abbrev rootTest : Tables → ℕ → Bool
+rootTest t c = eqb (par t c) c
+
+module _ {n : ℕ} {t : Tables} {P E O : ℕ → ℕ} (F : (v : ℕ) → v < n → FitsAt n t P E O v) where
+  one : (c d : ℕ) → c < n → d < n → P c ≡ P d → c ≡ d
+  one c d hc hd e = sym (F c hc .back) ∙ ap O e ∙ F d hd .back
+
+  -- Whose turn is i, its turn is i.
+  whose-turn : (i : ℕ) → i < n → P (O i) ≡ i
+  whose-turn i h =
+      let (u, hu, e) = pigeons P n (λ v g. F v g .inside) one i h in
+      ap P (ap O (sym e) ∙ F u hu .back) ∙ e
+
+  children : (p : ℕ) → p < n → Row n P E (childOf t p) (suc (P p)) (E p)
+  children p hp = record {
+    wide = λ c h. F c h .wide;
+    same = one;
+    low = λ c h q.
+        let (e, d) = child-facts t p c .0 q in
+        rw e at (F c h .later (λ r. d (sym r ∙ e)));
+    start = elim (F p hp .first-child) [
+      | inl e ↦ inl (sym e)
+      | inr U ↦
+          let e : P (O (suc (P p))) ≡ suc (P p) = whose-turn (suc (P p)) (U .early) in
+          inr (O (suc (P p)), U .one, child-facts t p (O (suc (P p))) .1 (U .under, λ r. omega (arith, ap P r)), e)
+    ];
+    next = λ c h q.
+        let (e, d) = child-facts t p c .0 q in
+        let s : par t c ≢ c = λ r. d (sym r ∙ e) in
+        elim (F c h .next-child s) [
+          | inl g ↦ inl (g ∙ ap E e)
+          | inr (U, l) ↦
+              let g : P (O (E c)) ≡ E c = whose-turn (E c) (U .early) in
+              inr (O (E c), U .one, child-facts t p (O (E c)) .1 (U .under ∙ e, λ r. omega (arith, ap P r, F c h .wide, rw e at (F c h .later s))), l, g)
+        ];
+  }
+
+  roots : Row n P E (rootTest t) 0 n
+  roots = record {
+    wide = λ c h. F c h .wide;
+    same = one;
+    low = λ c h q. omega arith;
+    start = elim (ℕ-discrete 0 n) [
+      | yes e ↦ inl e
+      | no d ↦
+          let (w, h, e) = pigeons P n (λ v g. F v g .inside) one 0 (omega arith) in
+          elim (ℕ-discrete (par t w) w) [
+            | yes r ↦ inr (w, h, eq→eqb (par t w) w r, e)
+            | no r ↦ absurd (omega (arith, F w h .later r))
+          ]
+    ];
+    next = λ c h q. elim (F c h .next-root (eqb→eq (par t c) c q)) [
+      | inl e ↦ inl e
+      | inr U ↦ inr (O (E c), U .one, eq→eqb (par t (O (E c))) (O (E c)) (U .root), U .rises, whose-turn (E c) (U .early))
+    ];
+  }
