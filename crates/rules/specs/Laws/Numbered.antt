@@ -78,3 +78,45 @@ module _ {n : ℕ} {t : Tables} {P E O : ℕ → ℕ} (F : (v : ℕ) → v < n �
       | inr U ↦ inr (O (E c), U .one, eq→eqb (par t (O (E c))) (O (E c)) (U .root), U .rises, whose-turn (E c) (U .early))
     ];
   }
+
+  module _ (L : Levels n (par t) (lev t)) where
+    -- What comes between the turn of v and its end is below v.
+    range-by : (k v u : ℕ) → v < n → u < n → E v - P v ≤ k → P v ≤ P u → P u < E v → Over (par t) (lev t) v u
+    range-by zero v u hv hu g a b = absurd (omega arith)
+    range-by (suc k) v u hv hu g a b = elim (ℕ-discrete (P v) (P u)) [
+      | yes e ↦ subst (λ (x : ℕ). Over (par t) (lev t) v x) (one v u hv hu e) (over-refl L v)
+      | no d ↦
+          let R = children v hv in
+          let (c, h, q, i, j) = row-cover R (P u) (omega arith) b in
+          let o : Over (par t) (lev t) v c = rw (child-facts t v c .0 q .0) at (over-par L c h) in
+          over-trans L v c u hu o (range-by k c u h hu (omega (arith, R .low c h q, row-end R c h q)) i j)
+    ]
+
+    -- Two on one level do not overlap.
+    apart : (c d : ℕ) → c < n → d < n → lev t c ≡ lev t d → P c ≤ P d → P d < E c → c ≡ d
+    apart c d hc hd e a b = over-same L c d (range-by (E c - P c) c d hc hd (omega arith) a b) e
+
+    apart-children : (p c d : ℕ) → c < n → d < n → T (childOf t p c) → T (childOf t p d) → P c ≤ P d → P d < E c → c ≡ d
+    apart-children p c d hc hd qc qd = apart c d hc hd (child-level p c hc qc ∙ sym (child-level p d hd qd))
+
+    apart-roots : (c d : ℕ) → c < n → d < n → T (rootTest t c) → T (rootTest t d) → P c ≤ P d → P d < E c → c ≡ d
+    apart-roots c d hc hd qc qd = apart c d hc hd (root-lev L c hc (eqb→eq (par t c) c qc) ∙ sym (root-lev L d hd (eqb→eq (par t d) d qd)))
+
+    size-by : (k v : ℕ) → v < n → E v - P v ≤ k → E v - P v ≡ below n t v
+    size-by k v h g = ?
+
+    size : (v : ℕ) → v < n → E v - P v ≡ below n t v
+    size v h = size-by (E v - P v) v h (omega arith)
+
+    turn-by : (k v : ℕ) → v < n → lev t v ≡ k → P v ≡ turn n t v
+    turn-by k v h e = ?
+
+    fits-turn : (v : ℕ) → v < n → P v ≡ turn n t v
+    fits-turn v h = turn-by (lev t v) v h refl
+
+    numbered : (v : ℕ) → v < n → NumberedAt n t P E O v
+    numbered v h = record {
+      turns = fits-turn v h;
+      ends = ?;
+      whose = ?;
+    }
