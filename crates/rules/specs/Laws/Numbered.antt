@@ -16,9 +16,9 @@ use Rattle.rules.specs.Tables.{Tables, par, lev}
 use Rattle.rules.specs.Reading.{childOf}
 use Rattle.rules.specs.Numbers.{below, belowIf, beside, passed, turn, end, atTurn}
 use Rattle.rules.specs.Laws.Up.{par-in, root-lev, child-lev, over-refl, over-par, over-trans, over-same}
-use Rattle.rules.specs.Laws.Reports.{child-facts}
-use Rattle.rules.specs.Laws.Pigeons.{pigeons}
-use Rattle.rules.specs.Laws.Row.{Row, sizeIf, row-end, row-cover, row-begins, row-sum}
+use Rattle.rules.specs.Laws.Reading.{child-facts}
+use Rattle.rules.specs.Laws.Sums.{sum-same, onto}
+use Rattle.rules.specs.Laws.Queue.{Queue, sizeIf, queue-end, queue-cover, queue-begins, queue-sum}
 use Rattle.rules.specs.Laws.Fits.{Under, NextRoot, FitsAt, NumberedAt}
 use Rattle.rules.specs.Laws.Numbers.{below-children, turn-root, turn-child, at-turn}
 
@@ -32,10 +32,10 @@ module _ {n : ℕ} {t : Tables} {P E O : ℕ → ℕ} (F : (v : ℕ) → v < n �
   -- Whose turn is i, its turn is i.
   whose-turn : (i : ℕ) → i < n → P (O i) ≡ i
   whose-turn i h =
-      let (u, hu, e) = pigeons P n (λ v g. F v g .inside) one i h in
+      let (u, hu, e) = onto P n (λ v g. F v g .inside) one i h in
       ap P (ap O (sym e) ∙ F u hu .back) ∙ e
 
-  children : (p : ℕ) → p < n → Row n P E (childOf t p) (suc (P p)) (E p)
+  children : (p : ℕ) → p < n → Queue n P E (childOf t p) (suc (P p)) (E p)
   children p hp = record {
     wide = λ c h. F c h .wide;
     same = one;
@@ -59,7 +59,7 @@ module _ {n : ℕ} {t : Tables} {P E O : ℕ → ℕ} (F : (v : ℕ) → v < n �
         ];
   }
 
-  roots : Row n P E (rootTest t) 0 n
+  roots : Queue n P E (rootTest t) 0 n
   roots = record {
     wide = λ c h. F c h .wide;
     same = one;
@@ -67,7 +67,7 @@ module _ {n : ℕ} {t : Tables} {P E O : ℕ → ℕ} (F : (v : ℕ) → v < n �
     start = elim (ℕ-discrete 0 n) [
       | yes e ↦ inl e
       | no d ↦
-          let (w, h, e) = pigeons P n (λ v g. F v g .inside) one 0 (omega arith) in
+          let (w, h, e) = onto P n (λ v g. F v g .inside) one 0 (omega arith) in
           elim (ℕ-discrete (par t w) w) [
             | yes r ↦ inr (w, h, eq→eqb (par t w) w r, e)
             | no r ↦ absurd (omega (arith, F w h .later r))
@@ -86,15 +86,20 @@ module _ {n : ℕ} {t : Tables} {P E O : ℕ → ℕ} (F : (v : ℕ) → v < n �
     range-by (suc k) v u hv hu g a b = elim (ℕ-discrete (P v) (P u)) [
       | yes e ↦ subst (λ (x : ℕ). Over (par t) (lev t) v x) (one v u hv hu e) (over-refl L v)
       | no d ↦
-          let R = children v hv in
-          let (c, h, q, i, j) = row-cover R (P u) (omega arith) b in
+          let Q = children v hv in
+          let (c, h, q, i, j) = queue-cover Q (P u) (omega arith) b in
           let o : Over (par t) (lev t) v c = rw (child-facts t v c .0 q .0) at (over-par L c h) in
-          over-trans L v c u hu o (range-by k c u h hu (omega (arith, R .low c h q, row-end R c h q)) i j)
+          over-trans L v c u hu o (range-by k c u h hu (omega (arith, Q .low c h q, queue-end Q c h q)) i j)
     ]
 
     -- Two on one level do not overlap.
     apart : (c d : ℕ) → c < n → d < n → lev t c ≡ lev t d → P c ≤ P d → P d < E c → c ≡ d
     apart c d hc hd e a b = over-same L c d (range-by (E c - P c) c d hc hd (omega arith) a b) e
+
+    child-level : (p c : ℕ) → c < n → T (childOf t p c) → lev t c ≡ suc (lev t p)
+    child-level p c h q =
+        let (e, d) = child-facts t p c .0 q in
+        rw e at (child-lev L c h (λ r. d (sym r ∙ e)))
 
     apart-children : (p c d : ℕ) → c < n → d < n → T (childOf t p c) → T (childOf t p d) → P c ≤ P d → P d < E c → c ≡ d
     apart-children p c d hc hd qc qd = apart c d hc hd (child-level p c hc qc ∙ sym (child-level p d hd qd))

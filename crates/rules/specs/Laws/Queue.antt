@@ -1,4 +1,4 @@
--- A row: fragments that follow each other, each greater than the one before and beginning where that one ends, without a gap from lo to hi.
+-- A queue: fragments that follow each other, each greater than the one before and beginning where that one ends, without a gap from lo to hi.
 -- Assumes nothing.
 use Prim.Native.Nat.{ℕ, zero, suc, _+_, _-_, _≤_, _<_}
 use mathlib.Core.Path.{_≡_, refl, sym, ap, _∙_}
@@ -10,9 +10,10 @@ use lib.Dec.{T}
 use Rattle.base.specs.Pick.{pick, pick-true, pick-false}
 use Rattle.base.specs.Truth.{T-dec, T-true, T-false}
 use Rattle.rules.specs.Search.{sum}
+use Rattle.rules.specs.Laws.Sums.{sum-zero, sum-suc}
 
--- The fragments below n that pass a test are a row; P is where each begins, E where it ends.
-pub record Row (n : ℕ) (P E : ℕ → ℕ) (test : ℕ → Bool) (lo hi : ℕ) : Type 0 where
+-- The fragments below n that pass a test are a queue; P is where each begins, E where it ends.
+pub record Queue (n : ℕ) (P E : ℕ → ℕ) (test : ℕ → Bool) (lo hi : ℕ) : Type 0 where
   pub wide : (c : ℕ) → c < n → P c < E c
   pub same : (c d : ℕ) → c < n → d < n → P c ≡ P d → c ≡ d
   pub low : (c : ℕ) → c < n → T (test c) → lo ≤ P c
@@ -23,7 +24,7 @@ pub record Row (n : ℕ) (P E : ℕ → ℕ) (test : ℕ → Bool) (lo hi : ℕ)
 unfoldable pub sizeIf : (ℕ → ℕ) → (ℕ → ℕ) → (ℕ → Bool) → ℕ → ℕ
 sizeIf P E test c = pick (test c) (E c - P c) 0
 
--- What is left of a row from m on begins with w, where the sizes of those below m add up to.
+-- What is left of a queue from m on begins with w, where the sizes of those below m add up to.
 record Left (n : ℕ) (P E : ℕ → ℕ) (test : ℕ → Bool) (lo m w : ℕ) : Type 0 where
   inside : w < n
   passes : T (test w)
@@ -36,14 +37,6 @@ record Done (n : ℕ) (P E : ℕ → ℕ) (test : ℕ → Bool) (lo hi m : ℕ) 
   ends : hi ≡ lo + sum (sizeIf P E test) m
   none : (d : ℕ) → d < n → m ≤ d → T (test d) → ⊥
 
-sum-zero : (f : ℕ → ℕ) → sum f 0 ≡ 0
-unfolding sum
-sum-zero f = refl
-
-sum-suc : (f : ℕ → ℕ) (m : ℕ) → sum f (suc m) ≡ f m + sum f m
-unfolding sum
-sum-suc f m = refl
-
 module _ (P E : ℕ → ℕ) (test : ℕ → Bool) (c : ℕ) where
   size-yes : T (test c) → sizeIf P E test c ≡ E c - P c
   unfolding sizeIf
@@ -53,31 +46,31 @@ module _ (P E : ℕ → ℕ) (test : ℕ → Bool) (c : ℕ) where
   unfolding sizeIf
   size-no q = rw (T-false (test c) q, pick-false)
 
-module _ {n : ℕ} {P E : ℕ → ℕ} {test : ℕ → Bool} {lo hi : ℕ} (R : Row n P E test lo hi) where
+module _ {n : ℕ} {P E : ℕ → ℕ} {test : ℕ → Bool} {lo hi : ℕ} (Q : Queue n P E test lo hi) where
   ends-by : (k c : ℕ) → n ≤ c + k → c < n → T (test c) → E c ≤ hi
   ends-by zero c g h q = absurd (omega arith)
-  ends-by (suc k) c g h q = elim (R .next c h q) [
+  ends-by (suc k) c g h q = elim (Q .next c h q) [
     | inl e ↦ omega arith
-    | inr (w, hw, qw, l, e) ↦ omega (arith, ends-by k w (omega arith) hw qw, R .wide w hw)
+    | inr (w, hw, qw, l, e) ↦ omega (arith, ends-by k w (omega arith) hw qw, Q .wide w hw)
   ]
 
-  -- Nothing of a row ends behind it.
-  pub row-end : (c : ℕ) → c < n → T (test c) → E c ≤ hi
-  row-end c = ends-by n c (omega arith)
+  -- Nothing of a queue ends behind it.
+  pub queue-end : (c : ℕ) → c < n → T (test c) → E c ≤ hi
+  queue-end c = ends-by n c (omega arith)
 
   cover-by : (k c i : ℕ) → n ≤ c + k → c < n → T (test c) → P c ≤ i → i < hi → (d : ℕ) × (d < n) × T (test d) × (P d ≤ i) × (i < E d)
   cover-by zero c i g h q a b = absurd (omega arith)
   cover-by (suc k) c i g h q a b = elim (decLt i (E c)) [
     | yes l ↦ (c, h, q, a, l)
-    | no l ↦ elim (R .next c h q) [
+    | no l ↦ elim (Q .next c h q) [
       | inl e ↦ absurd (omega arith)
       | inr (w, hw, qw, r, e) ↦ cover-by k w i (omega arith) hw qw (omega arith) b
     ]
   ]
 
-  -- Each place of a row is in one of its fragments.
-  pub row-cover : (i : ℕ) → lo ≤ i → i < hi → (d : ℕ) × (d < n) × T (test d) × (P d ≤ i) × (i < E d)
-  row-cover i a b = elim (R .start) [
+  -- Each place of a queue is in one of its fragments.
+  pub queue-cover : (i : ℕ) → lo ≤ i → i < hi → (d : ℕ) × (d < n) × T (test d) × (P d ≤ i) × (i < E d)
+  queue-cover i a b = elim (Q .start) [
     | inl e ↦ absurd (omega arith)
     | inr (w, hw, qw, e) ↦ cover-by n w i (omega arith) hw qw (omega arith) b
   ]
@@ -94,11 +87,11 @@ module _ {n : ℕ} {P E : ℕ → ℕ} {test : ℕ → Bool} {lo hi : ℕ} (R : 
     rises-by zero c d g hc hd qc qd l = absurd (omega arith)
     rises-by (suc k) c d g hc hd qc qd l =
         let a : E c ≤ P d = after c d hc hd qc qd l in
-        elim (R .next c hc qc) [
-          | inl e ↦ absurd (omega (arith, row-end d hd qd, R .wide d hd))
+        elim (Q .next c hc qc) [
+          | inl e ↦ absurd (omega (arith, queue-end d hd qd, Q .wide d hd))
           | inr (w, hw, qw, r, e) ↦ elim (decLt (P w) (P d)) [
             | yes m ↦ omega (arith, rises-by k w d (omega arith) hw hd qw qd m)
-            | no m ↦ omega (arith, R .same w d hw hd (omega arith))
+            | no m ↦ omega (arith, Q .same w d hw hd (omega arith))
           ]
         ]
 
@@ -107,35 +100,35 @@ module _ {n : ℕ} {P E : ℕ → ℕ} {test : ℕ → Bool} {lo hi : ℕ} (R : 
     later c d hc hd qc qd l = elim (decLt (P c) (P d)) [
       | yes g ↦ g
       | no g ↦ elim (ℕ-discrete (P d) (P c)) [
-        | yes e ↦ absurd (omega (arith, R .same d c hd hc e))
+        | yes e ↦ absurd (omega (arith, Q .same d c hd hc e))
         | no e ↦ absurd (omega (arith, rises-by n d c (omega arith) hd hc qd qc (omega arith)))
       ]
     ]
 
     -- From the first on.
     left-start : ((w : ℕ) × Left n P E test lo 0 w) ⊎ Done n P E test lo hi 0
-    left-start = elim (R .start) [
+    left-start = elim (Q .start) [
       | inl e ↦ inr (record {
         ends = omega (arith, sum-zero (sizeIf P E test));
-        none = λ d h g q. omega (arith, R .low d h q, R .wide d h, row-end d h q);
+        none = λ d h g q. omega (arith, Q .low d h q, Q .wide d h, queue-end d h q);
       })
       | inr (w, h, q, e) ↦ inl (w, record {
         inside = h;
         passes = q;
         from = omega arith;
         begins = omega (arith, sum-zero (sizeIf P E test));
-        none = λ d hd g l qd. omega (arith, R .low d hd qd, later d w hd h qd q l);
+        none = λ d hd g l qd. omega (arith, Q .low d hd qd, later d w hd h qd q l);
       })
     ]
 
-    -- Past c, which is in the row.
+    -- Past c, which is in the queue.
     left-next : (c : ℕ) → c < n → T (test c) → P c ≡ lo + sum (sizeIf P E test) c → ((w : ℕ) × Left n P E test lo (suc c) w) ⊎ Done n P E test lo hi (suc c)
     left-next c h q b =
-        let s : E c ≡ lo + sum (sizeIf P E test) (suc c) = omega (arith, sum-suc (sizeIf P E test) c, size-yes P E test c q, R .wide c h) in
-        elim (R .next c h q) [
+        let s : E c ≡ lo + sum (sizeIf P E test) (suc c) = omega (arith, sum-suc (sizeIf P E test) c, size-yes P E test c q, Q .wide c h) in
+        elim (Q .next c h q) [
           | inl e ↦ inr (record {
             ends = omega arith;
-            none = λ d hd g qd. omega (arith, after c d h hd q qd (later c d h hd q qd (omega arith)), R .wide d hd, row-end d hd qd);
+            none = λ d hd g qd. omega (arith, after c d h hd q qd (later c d h hd q qd (omega arith)), Q .wide d hd, queue-end d hd qd);
           })
           | inr (w, hw, qw, l, e) ↦ inl (w, record {
             inside = hw;
@@ -170,9 +163,9 @@ module _ {n : ℕ} {P E : ℕ → ℕ} {test : ℕ → Bool} {lo hi : ℕ} (R : 
           ]
     ]
 
-    -- Each begins where the sizes of the smaller ones add up to, and the row ends where those of all do.
-    pub row-begins : (c : ℕ) → c < n → T (test c) → P c ≡ lo + sum (sizeIf P E test) c
-    row-begins c h q = elim (left c (omega arith)) [
+    -- Each begins where the sizes of the smaller ones add up to, and the queue ends where those of all do.
+    pub queue-begins : (c : ℕ) → c < n → T (test c) → P c ≡ lo + sum (sizeIf P E test) c
+    queue-begins c h q = elim (left c (omega arith)) [
       | inl (w, W) ↦ elim (ℕ-discrete w c) [
         | yes e ↦ rw e at (W .begins)
         | no d ↦ absurd (W .none c h (omega arith) (omega (arith, W .from)) q)
@@ -180,8 +173,8 @@ module _ {n : ℕ} {P E : ℕ → ℕ} {test : ℕ → Bool} {lo hi : ℕ} (R : 
       | inr D ↦ absurd (D .none c h (omega arith) q)
     ]
 
-    pub row-sum : hi ≡ lo + sum (sizeIf P E test) n
-    row-sum = elim (left n (omega arith)) [
+    pub queue-sum : hi ≡ lo + sum (sizeIf P E test) n
+    queue-sum = elim (left n (omega arith)) [
       | inl (w, W) ↦ absurd (omega (arith, W .inside, W .from))
       | inr D ↦ D .ends
     ]
