@@ -25,6 +25,14 @@ use Rattle.rules.specs.Laws.Numbers.{below-children, turn-root, turn-chi
 abbrev rootTest : Tables → ℕ → Bool
 rootTest t c = eqb (par t c) c
 
+-- Where sizes are what stands below, they add up alike.
+same-size : (n : ℕ) (t : Tables) (P E : ℕ → ℕ) (test : ℕ → Bool) (c : ℕ) → (T (test c) → E c - P c ≡ below n t c) → sizeIf P E test c ≡ belowIf n t test c
+unfolding sizeIf belowIf
+same-size n t P E test c f = elim (T-dec (test c)) [
+  | yes q ↦ rw (T-true (test c) q, pick-true) (f q)
+  | no q ↦ rw (T-false (test c) q, pick-false)
+]
+
 module _ {n : ℕ} {t : Tables} {P E O : ℕ → ℕ} (F : (v : ℕ) → v < n → FitsAt n t P E O v) where
   one : (c d : ℕ) → c < n → d < n → P c ≡ P d → c ≡ d
   one c d hc hd e = sym (F c hc .back) ∙ ap O e ∙ F d hd .back
@@ -108,20 +116,37 @@ module _ {n : ℕ} {t : Tables} {P E O : ℕ → ℕ} (F : (v : ℕ) → v < n �
     apart-roots c d hc hd qc qd = apart c d hc hd (root-lev L c hc (eqb→eq (par t c) c qc) ∙ sym (root-lev L d hd (eqb→eq (par t d) d qd)))
 
     size-by : (k v : ℕ) → v < n → E v - P v ≤ k → E v - P v ≡ below n t v
-    size-by k v h g = ?
+    size-by zero v h g = absurd (omega (arith, F v h .wide))
+    size-by (suc k) v h g =
+        let Q = children v h in
+        let s : sum (sizeIf P E (childOf t v)) n ≡ sum (belowIf n t (childOf t v)) n = sum-same (sizeIf P E (childOf t v)) (belowIf n t (childOf t v)) n
+        (λ c l. same-size n t P E (childOf t v) c (λ q. size-by k c l (omega (arith, Q .low c l q, queue-end Q c l q)))) in
+        omega (arith, queue-sum Q (apart-children v), s, below-children n t L v h)
 
     size : (v : ℕ) → v < n → E v - P v ≡ below n t v
     size v h = size-by (E v - P v) v h (omega arith)
 
+    -- The sizes of the smaller ones beside v.
+    sizes-passed : (v : ℕ) (test : ℕ → Bool) → v < n → ((c : ℕ) → beside t v c ≡ test c) → sum (sizeIf P E test) v ≡ passed n t v
+    unfolding passed
+    sizes-passed v test h f = sum-same (sizeIf P E test) (belowIf n t (beside t v)) v (λ c l. same-size n t P E test c (λ q. size c (omega arith)) ∙ ?)
+
     turn-by : (k v : ℕ) → v < n → lev t v ≡ k → P v ≡ turn n t v
-    turn-by k v h e = ?
+    turn-by zero v h e = ?
+    turn-by (suc k) v h e = ?
 
     fits-turn : (v : ℕ) → v < n → P v ≡ turn n t v
     fits-turn v h = turn-by (lev t v) v h refl
 
-    numbered : (v : ℕ) → v < n → NumberedAt n t P E O v
-    numbered v h = record {
-      turns = fits-turn v h;
-      ends = ?;
-      whose = ?;
-    }
+    whose-at : (i : ℕ) → i < n → O i ≡ atTurn n t i
+    whose-at i h =
+        let (u, hu, e) = onto P n (λ v g. F v g .inside) one i h in
+        let g : O i ≡ u = ap O (sym e) ∙ F u hu .back in
+        g ∙ sym (at-turn n t L u hu) ∙ ap (atTurn n t) (sym (fits-turn u hu) ∙ e)
+
+    ends-end : (v : ℕ) → v < n → E v ≡ end n t v
+    unfolding end
+    ends-end v h = omega (arith, fits-turn v h, size v h, F v h .wide)
+
+pub fits-numbered : (n : ℕ) (t : Tables) (P E O : ℕ → ℕ) → Levels n (par t) (lev t) → ((v : ℕ) → v < n → FitsAt n t P E O v) → (v : ℕ) → v < n → NumberedAt n t P E O v
+fits-numbered n t P E O L F v h = record { turns = fits-turn F L v h; ends = ends-end F L v h; whose = whose-at F L v h }
