@@ -27,6 +27,7 @@ pub mod Passes
 pub mod Met
 pub mod Removal
 pub mod Reading
+pub mod Sums
 pub mod Without
 pub mod Reports
 pub mod Adopting
