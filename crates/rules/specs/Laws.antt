@@ -28,6 +28,8 @@ pub mod Met
 pub mod Removal
 pub mod Reading
 pub mod Sums
+pub mod Below
+pub mod Numbers
 pub mod Without
 pub mod Reports
 pub mod Adopting

@@ -12,7 +12,7 @@ use Rattle.base.specs.Truth.{or-l, or-r, or-cases, T-dec, T-true, T-false, T-ex
 use Rattle.rules.specs.Search.{count, sum, some}
 use Rattle.rules.specs.Laws.Search.{some-elim, count-le, count-yes, count-no, count-zero, count-one-more}
 
-sum-zero : (f : ℕ → ℕ) → sum f 0 ≡ 0
+pub sum-zero : (f : ℕ → ℕ) → sum f 0 ≡ 0
 unfolding sum
 sum-zero f = refl
 
@@ -103,6 +103,10 @@ module _ (test : ℕ → Bool) (q : ℕ → ℕ → Bool) where
 count-none : (p : ℕ → Bool) (n : ℕ) → ((k : ℕ) → T (p k) → ⊥) → count p n ≡ 0
 count-none p zero f = count-zero p
 count-none p (suc n) f = count-no p n (f n) ∙ count-none p n f
+
+pub count-all : (p : ℕ → Bool) (n : ℕ) → ((k : ℕ) → T (p k)) → count p n ≡ n
+count-all p zero f = count-zero p
+count-all p (suc n) f = count-yes p n (f n) ∙ ap suc (count-all p n f)
 
 -- A count that is full leaves none out.
 count-full : (p : ℕ → Bool) (n : ℕ) → count p n ≡ n → (k : ℕ) → k < n → T (p k)

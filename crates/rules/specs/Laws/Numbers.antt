@@ -1,0 +1,2 @@
+-- The numbers of a forest: who is above whom is a comparison of turns.
+-- Assumes nothing.
