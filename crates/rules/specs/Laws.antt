@@ -28,6 +28,7 @@ pub mod Met
 pub mod Removal
 pub mod Reading
 pub mod Sums
+pub mod Below
 pub mod Numbers
 pub mod Fits
 pub mod Queue

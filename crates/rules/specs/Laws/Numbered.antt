@@ -15,22 +15,20 @@ use Rattle.rules.specs.Search.{sum}
 use Rattle.rules.specs.Tables.{Tables, par, lev}
 use Rattle.rules.specs.Reading.{childOf}
 use Rattle.rules.specs.Numbers.{below, belowIf, beside, passed, turn, end, atTurn}
-use Rattle.rules.specs.Laws.Up.{par-in, root-lev, child-lev, over-refl, over-par, over-trans, over-same}
+use Rattle.rules.specs.Laws.Up.{par-in, root-par, root-lev, child-lev, over-refl, over-par, over-trans, over-same}
 use Rattle.rules.specs.Laws.Reading.{child-facts}
 use Rattle.rules.specs.Laws.Sums.{sum-same, onto}
 use Rattle.rules.specs.Laws.Queue.{Queue, sizeIf, queue-end, queue-cover, queue-begins, queue-sum}
 use Rattle.rules.specs.Laws.Fits.{Under, NextRoot, FitsAt, NumberedAt}
-use Rattle.rules.specs.Laws.Numbers.{below-children, turn-root, turn-child, at-turn}
-
-abbrev rootTest : Tables → ℕ → Bool
-rootTest t c = eqb (par t c) c
+use Rattle.rules.specs.Laws.Below.{top, child-level, below-children, row-roots, row-children}
+use Rattle.rules.specs.Laws.Numbers.{at-turn}
 
 -- Where sizes are what stands below, they add up alike.
 same-size : (n : ℕ) (t : Tables) (P E : ℕ → ℕ) (test : ℕ → Bool) (c : ℕ) → (T (test c) → E c - P c ≡ below n t c) → sizeIf P E test c ≡ belowIf n t test c
-unfolding sizeIf belowIf
+unfolding sizeIf belowIf pick
 same-size n t P E test c f = elim (T-dec (test c)) [
-  | yes q ↦ rw (T-true (test c) q, pick-true) (f q)
-  | no q ↦ rw (T-false (test c) q, pick-false)
+  | yes q ↦ rw (T-true (test c) q) (f q)
+  | no q ↦ rw (T-false (test c) q)
 ]
 
 module _ {n : ℕ} {t : Tables} {P E O : ℕ → ℕ} (F : (v : ℕ) → v < n → FitsAt n t P E O v) where
@@ -67,7 +65,7 @@ module _ {n : ℕ} {t : Tables} {P E O : ℕ → ℕ} (F : (v : ℕ) → v < n �
         ];
   }
 
-  roots : Queue n P E (rootTest t) 0 n
+  roots : Queue n P E (top t) 0 n
   roots = record {
     wide = λ c h. F c h .wide;
     same = one;
@@ -104,15 +102,10 @@ module _ {n : ℕ} {t : Tables} {P E O : ℕ → ℕ} (F : (v : ℕ) → v < n �
     apart : (c d : ℕ) → c < n → d < n → lev t c ≡ lev t d → P c ≤ P d → P d < E c → c ≡ d
     apart c d hc hd e a b = over-same L c d (range-by (E c - P c) c d hc hd (omega arith) a b) e
 
-    child-level : (p c : ℕ) → c < n → T (childOf t p c) → lev t c ≡ suc (lev t p)
-    child-level p c h q =
-        let (e, d) = child-facts t p c .0 q in
-        rw e at (child-lev L c h (λ r. d (sym r ∙ e)))
-
     apart-children : (p c d : ℕ) → c < n → d < n → T (childOf t p c) → T (childOf t p d) → P c ≤ P d → P d < E c → c ≡ d
-    apart-children p c d hc hd qc qd = apart c d hc hd (child-level p c hc qc ∙ sym (child-level p d hd qd))
+    apart-children p c d hc hd qc qd = apart c d hc hd (child-level n t L p c hc qc ∙ sym (child-level n t L p d hd qd))
 
-    apart-roots : (c d : ℕ) → c < n → d < n → T (rootTest t c) → T (rootTest t d) → P c ≤ P d → P d < E c → c ≡ d
+    apart-roots : (c d : ℕ) → c < n → d < n → T (top t c) → T (top t d) → P c ≤ P d → P d < E c → c ≡ d
     apart-roots c d hc hd qc qd = apart c d hc hd (root-lev L c hc (eqb→eq (par t c) c qc) ∙ sym (root-lev L d hd (eqb→eq (par t d) d qd)))
 
     size-by : (k v : ℕ) → v < n → E v - P v ≤ k → E v - P v ≡ below n t v
@@ -126,14 +119,26 @@ module _ {n : ℕ} {t : Tables} {P E O : ℕ → ℕ} (F : (v : ℕ) → v < n �
     size : (v : ℕ) → v < n → E v - P v ≡ below n t v
     size v h = size-by (E v - P v) v h (omega arith)
 
-    -- The sizes of the smaller ones beside v.
-    sizes-passed : (v : ℕ) (test : ℕ → Bool) → v < n → ((c : ℕ) → beside t v c ≡ test c) → sum (sizeIf P E test) v ≡ passed n t v
-    unfolding passed
-    sizes-passed v test h f = sum-same (sizeIf P E test) (belowIf n t (beside t v)) v (λ c l. same-size n t P E test c (λ q. size c (omega arith)) ∙ ?)
+    -- The smaller ones beside v add up alike in sizes and in what stands below.
+    sizes : (test : ℕ → Bool) (v : ℕ) → v < n → sum (sizeIf P E test) v ≡ sum (belowIf n t test) v
+    sizes test v h = sum-same (sizeIf P E test) (belowIf n t test) v (λ c l. same-size n t P E test c (λ q. size c (omega arith)))
 
     turn-by : (k v : ℕ) → v < n → lev t v ≡ k → P v ≡ turn n t v
-    turn-by zero v h e = ?
-    turn-by (suc k) v h e = ?
+    turn-by zero v h e =
+        let q : T (top t v) = eq→eqb (par t v) v (root-par L v h e) in
+        omega (arith, queue-begins roots apart-roots v h q, sizes (top t) v h, row-roots n t L .turns v h q)
+    turn-by (suc k) v h e =
+        let p = par t v in
+        let hp : p < n = par-in L v h in
+        let d : p ≢ v = λ r. omega (arith, root-lev L v h r) in
+        let q : T (childOf t p v) = child-facts t p v .1 (refl, λ r. d (sym r)) in
+        omega (
+          arith,
+          queue-begins (children p hp) (apart-children p) v h q,
+          sizes (childOf t p) v h,
+          row-children n t L p hp .turns v h q,
+          turn-by k p hp (omega (arith, child-lev L v h d)),
+        )
 
     fits-turn : (v : ℕ) → v < n → P v ≡ turn n t v
     fits-turn v h = turn-by (lev t v) v h refl

@@ -1,37 +1,11 @@
 -- The numbers of a forest: who is above whom is a comparison of turns.
 -- Assumes nothing.
-use Prim.Native.Nat.{ℕ, suc, _+_, _≤_, _<_}
+use Prim.Native.Nat.{ℕ, _<_}
 use mathlib.Core.Path.{_≡_}
-use mathlib.Core.Logic.{_≢_, _↔_}
-use lib.Dec.{T}
 use Rattle.rules.specs.Forest.{Levels}
-use Rattle.rules.specs.Search.{sum}
 use Rattle.rules.specs.Tables.{Tables, par, lev}
-use Rattle.rules.specs.Reading.{above, childOf}
-use Rattle.rules.specs.Numbers.{below, belowIf, passed, turn, end, atTurn}
+use Rattle.rules.specs.Numbers.{turn, atTurn}
 
 module _ (n : ℕ) (t : Tables) (L : Levels n (par t) (lev t)) where
-  -- v itself, and what stands below its children.
-  pub below-children : (v : ℕ) → v < n → below n t v ≡ suc (sum (belowIf n t (childOf t v)) n)
-  below-children v h = ?
-
-  pub turn-root : (v : ℕ) → v < n → par t v ≡ v → turn n t v ≡ passed n t v
-  turn-root v h e = ?
-
-  pub turn-child : (v : ℕ) → v < n → par t v ≢ v → turn n t v ≡ suc (turn n t (par t v)) + passed n t v
-  turn-child v h d = ?
-
-  pub turn-in : (v : ℕ) → v < n → turn n t v < n
-  turn-in v h = ?
-
-  pub turn-one : (u v : ℕ) → u < n → v < n → turn n t u ≡ turn n t v → u ≡ v
-  turn-one u v hu hv e = ?
-
   pub at-turn : (v : ℕ) → v < n → atTurn n t (turn n t v) ≡ v
   at-turn v h = ?
-
-  pub turn-at : (i : ℕ) → i < n → (atTurn n t i < n) × (turn n t (atTurn n t i) ≡ i)
-  turn-at i h = ?
-
-  pub above-range : (a b : ℕ) → a < n → b < n → T (above t a b) ↔ ((turn n t a ≤ turn n t b) × (turn n t b < end n t a))
-  above-range a b ha hb = ?

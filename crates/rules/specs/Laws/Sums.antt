@@ -104,6 +104,10 @@ count-none : (p : ℕ → Bool) (n : ℕ) → ((k : ℕ) → T (p k) → ⊥) �
 count-none p zero f = count-zero p
 count-none p (suc n) f = count-no p n (f n) ∙ count-none p n f
 
+pub count-all : (p : ℕ → Bool) (n : ℕ) → ((k : ℕ) → T (p k)) → count p n ≡ n
+count-all p zero f = count-zero p
+count-all p (suc n) f = count-yes p n (f n) ∙ ap suc (count-all p n f)
+
 -- A count that is full leaves none out.
 count-full : (p : ℕ → Bool) (n : ℕ) → count p n ≡ n → (k : ℕ) → k < n → T (p k)
 count-full p zero e k h = absurd (omega arith)
