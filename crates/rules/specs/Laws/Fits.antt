@@ -3,8 +3,7 @@
 use Prim.Native.Nat.{ℕ, suc, _<_}
 use mathlib.Core.Path.{_≡_}
 use mathlib.Core.Logic.{_⊎_, _≢_}
-use Rattle.rules.specs.Forest.{Levels}
-use Rattle.rules.specs.Tables.{Tables, par, lev}
+use Rattle.rules.specs.Tables.{Tables, par}
 use Rattle.rules.specs.Numbers.{turn, end, atTurn}
 
 module _ (n : ℕ) (t : Tables) (P E O : ℕ → ℕ) where

@@ -1,29 +1,28 @@
--- Words that fit are the numbers of the forest.
+-- Words that fit are the numbers of the forest: the children of each fragment, and the roots, are queues without a gap, so their sizes add up as what stands below them does.
 -- Assumes nothing.
-use Prim.Native.Nat.{ℕ, zero, suc, _+_, _-_, _≤_, _<_}
+use Prim.Native.Nat.{ℕ, zero, suc, _-_, _≤_, _<_}
 use mathlib.Core.Path.{_≡_, refl, sym, ap, _∙_, subst}
 use mathlib.Core.Bool.{Bool}
-use mathlib.Core.Logic.{_⊎_, inl, inr, _≢_, _↔_}
+use mathlib.Core.Logic.{inl, inr, _≢_}
 use native.Mathlib.Omega.{arith}
-use native.Mathlib.Decide.{ℕ-discrete, decLt, decLe}
-use lib.Dec.{T, eqb, eqb→eq}
-use borrow.Author.Tests.{eq-eqb, ne-eqb}
-use Rattle.base.specs.Pick.{pick, pick-true, pick-false}
+use native.Mathlib.Decide.{ℕ-discrete}
+use lib.Dec.{T, eqb→eq}
+use Rattle.base.specs.Pick.{pick}
 use Rattle.base.specs.Truth.{T-dec, T-true, T-false, eq→eqb}
 use Rattle.rules.specs.Forest.{Levels, Over}
 use Rattle.rules.specs.Search.{sum}
 use Rattle.rules.specs.Tables.{Tables, par, lev}
 use Rattle.rules.specs.Reading.{childOf}
-use Rattle.rules.specs.Numbers.{below, belowIf, beside, passed, turn, end, atTurn}
+use Rattle.rules.specs.Numbers.{below, belowIf, turn, end, atTurn}
 use Rattle.rules.specs.Laws.Up.{par-in, root-par, root-lev, child-lev, over-refl, over-par, over-trans, over-same}
 use Rattle.rules.specs.Laws.Reading.{child-facts}
 use Rattle.rules.specs.Laws.Sums.{sum-same, onto}
 use Rattle.rules.specs.Laws.Queue.{Queue, sizeIf, queue-end, queue-cover, queue-begins, queue-sum}
-use Rattle.rules.specs.Laws.Fits.{Under, NextRoot, FitsAt, NumberedAt}
+use Rattle.rules.specs.Laws.Fits.{FitsAt, NumberedAt}
 use Rattle.rules.specs.Laws.Below.{top, child-level, below-children, row-roots, row-children}
 use Rattle.rules.specs.Laws.Numbers.{at-turn}
 
--- Where sizes are what stands below, they add up alike.
+-- The same in sizes as in what stands below.
 same-size : (n : ℕ) (t : Tables) (P E : ℕ → ℕ) (test : ℕ → Bool) (c : ℕ) → (T (test c) → E c - P c ≡ below n t c) → sizeIf P E test c ≡ belowIf n t test c
 unfolding sizeIf belowIf pick
 same-size n t P E test c f = elim (T-dec (test c)) [
@@ -32,6 +31,7 @@ same-size n t P E test c f = elim (T-dec (test c)) [
 ]
 
 module _ {n : ℕ} {t : Tables} {P E O : ℕ → ℕ} (F : (v : ℕ) → v < n → FitsAt n t P E O v) where
+  -- No two have one turn.
   one : (c d : ℕ) → c < n → d < n → P c ≡ P d → c ≡ d
   one c d hc hd e = sym (F c hc .back) ∙ ap O e ∙ F d hd .back
 
@@ -108,6 +108,7 @@ module _ {n : ℕ} {t : Tables} {P E O : ℕ → ℕ} (F : (v : ℕ) → v < n �
     apart-roots : (c d : ℕ) → c < n → d < n → T (top t c) → T (top t d) → P c ≤ P d → P d < E c → c ≡ d
     apart-roots c d hc hd qc qd = apart c d hc hd (root-lev L c hc (eqb→eq (par t c) c qc) ∙ sym (root-lev L d hd (eqb→eq (par t d) d qd)))
 
+    -- From its turn to its end v has as many places as stand below it.
     size-by : (k v : ℕ) → v < n → E v - P v ≤ k → E v - P v ≡ below n t v
     size-by zero v h g = absurd (omega (arith, F v h .wide))
     size-by (suc k) v h g =
@@ -119,7 +120,6 @@ module _ {n : ℕ} {t : Tables} {P E O : ℕ → ℕ} (F : (v : ℕ) → v < n �
     size : (v : ℕ) → v < n → E v - P v ≡ below n t v
     size v h = size-by (E v - P v) v h (omega arith)
 
-    -- The smaller ones beside v add up alike in sizes and in what stands below.
     sizes : (test : ℕ → Bool) (v : ℕ) → v < n → sum (sizeIf P E test) v ≡ sum (belowIf n t test) v
     sizes test v h = sum-same (sizeIf P E test) (belowIf n t test) v (λ c l. same-size n t P E test c (λ q. size c (omega arith)))
 

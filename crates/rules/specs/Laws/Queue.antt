@@ -1,9 +1,9 @@
 -- A queue: fragments that follow each other, each greater than the one before and beginning where that one ends, without a gap from lo to hi.
 -- Assumes nothing.
 use Prim.Native.Nat.{ℕ, zero, suc, _+_, _-_, _≤_, _<_}
-use mathlib.Core.Path.{_≡_, refl, sym, ap, _∙_}
+use mathlib.Core.Path.{_≡_, ap}
 use mathlib.Core.Bool.{Bool}
-use mathlib.Core.Logic.{_⊎_, inl, inr, _≢_}
+use mathlib.Core.Logic.{_⊎_, inl, inr}
 use native.Mathlib.Omega.{arith}
 use native.Mathlib.Decide.{ℕ-discrete, decLt, decLe}
 use lib.Dec.{T}
@@ -112,13 +112,16 @@ module _ {n : ℕ} {P E : ℕ → ℕ} {test : ℕ → Bool} {lo hi : ℕ} (Q : 
         ends = omega (arith, sum-zero (sizeIf P E test));
         none = λ d h g q. omega (arith, Q .low d h q, Q .wide d h, queue-end d h q);
       })
-      | inr (w, h, q, e) ↦ inl (w, record {
-        inside = h;
-        passes = q;
-        from = omega arith;
-        begins = omega (arith, sum-zero (sizeIf P E test));
-        none = λ d hd g l qd. omega (arith, Q .low d hd qd, later d w hd h qd q l);
-      })
+      | inr (w, h, q, e) ↦ inl (
+        w,
+        record {
+          inside = h;
+          passes = q;
+          from = omega arith;
+          begins = omega (arith, sum-zero (sizeIf P E test));
+          none = λ d hd g l qd. omega (arith, Q .low d hd qd, later d w hd h qd q l);
+        },
+      )
     ]
 
     -- Past c, which is in the queue.
@@ -130,13 +133,16 @@ module _ {n : ℕ} {P E : ℕ → ℕ} {test : ℕ → Bool} {lo hi : ℕ} (Q : 
             ends = omega arith;
             none = λ d hd g qd. omega (arith, after c d h hd q qd (later c d h hd q qd (omega arith)), Q .wide d hd, queue-end d hd qd);
           })
-          | inr (w, hw, qw, l, e) ↦ inl (w, record {
-            inside = hw;
-            passes = qw;
-            from = omega arith;
-            begins = omega arith;
-            none = λ d hd g r qd. omega (arith, after c d h hd q qd (later c d h hd q qd (omega arith)), later d w hd hw qd qw r);
-          })
+          | inr (w, hw, qw, l, e) ↦ inl (
+            w,
+            record {
+              inside = hw;
+              passes = qw;
+              from = omega arith;
+              begins = omega arith;
+              none = λ d hd g r qd. omega (arith, after c d h hd q qd (later c d h hd q qd (omega arith)), later d w hd hw qd qw r);
+            },
+          )
         ]
 
     left : (m : ℕ) → m < suc n → ((w : ℕ) × Left n P E test lo m w) ⊎ Done n P E test lo hi m
@@ -152,13 +158,16 @@ module _ {n : ℕ} {P E : ℕ → ℕ} {test : ℕ → Bool} {lo hi : ℕ} (Q : 
       | no q ↦
           let s : sum (sizeIf P E test) (suc m) ≡ sum (sizeIf P E test) m = omega (arith, sum-suc (sizeIf P E test) m, size-no P E test m q) in
           elim (left m (omega arith)) [
-            | inl (w, W) ↦ inl (w, record {
-              inside = W .inside;
-              passes = W .passes;
-              from = elim (ℕ-discrete w m) [ yes e ↦ absurd (q (rw e at (W .passes))) | no d ↦ omega (arith, W .from) ];
-              begins = omega (arith, W .begins);
-              none = λ d hd g. W .none d hd (omega arith);
-            })
+            | inl (w, W) ↦ inl (
+              w,
+              record {
+                inside = W .inside;
+                passes = W .passes;
+                from = elim (ℕ-discrete w m) [ yes e ↦ absurd (q (rw e at (W .passes))) | no d ↦ omega (arith, W .from) ];
+                begins = omega (arith, W .begins);
+                none = λ d hd g. W .none d hd (omega arith);
+              },
+            )
             | inr D ↦ inr (record { ends = omega (arith, D .ends); none = λ d hd g. D .none d hd (omega arith) })
           ]
     ]
