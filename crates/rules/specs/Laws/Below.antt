@@ -67,11 +67,11 @@ module _ (n : ℕ) (t : Tables) where
         | inr (u, l, hu, r, a) ↦ inr (u, hu, r, l, omega (arith, row-end, R .turns u hu r))
       ]
 
-  beside-root : (v : ℕ) → par t v ≡ v → beside t v ≡ top t
+  pub beside-root : (v : ℕ) → par t v ≡ v → beside t v ≡ top t
   unfolding beside pick
   beside-root v e = ap {B = ℕ → Bool} (λ (b : Bool) (c : ℕ). pick b (eqb (par t c) c) (childOf t (par t v) c)) (eq-eqb (par t v) v e)
 
-  beside-child : (v : ℕ) → par t v ≢ v → beside t v ≡ childOf t (par t v)
+  pub beside-child : (v : ℕ) → par t v ≢ v → beside t v ≡ childOf t (par t v)
   unfolding beside pick
   beside-child v d = ap {B = ℕ → Bool} (λ (b : Bool) (c : ℕ). pick b (eqb (par t c) c) (childOf t (par t v) c)) (ne-eqb (par t v) v d)
 
