@@ -6,21 +6,21 @@ use mathlib.Core.Bool.{Bool}
 use mathlib.Core.Logic.{inl, inr, _≢_}
 use native.Mathlib.Omega.{arith}
 use native.Mathlib.Decide.{ℕ-discrete}
-use lib.Dec.{T, eqb, eqb→eq}
+use lib.Dec.{T, eqb→eq}
 use Rattle.base.specs.Pick.{pick}
 use Rattle.base.specs.Truth.{T-dec, T-true, T-false, eq→eqb}
 use Rattle.rules.specs.Forest.{Levels, Over}
-use Rattle.rules.specs.Search.{sum, first}
+use Rattle.rules.specs.Search.{sum}
 use Rattle.rules.specs.Tables.{Tables, par, lev}
 use Rattle.rules.specs.Reading.{childOf}
 use Rattle.rules.specs.Numbers.{below, belowIf, turn, end, atTurn}
-use Rattle.rules.specs.Laws.Search.{first-below, first-passes}
 use Rattle.rules.specs.Laws.Up.{par-in, root-par, root-lev, child-lev, over-refl, over-par, over-trans, over-same}
 use Rattle.rules.specs.Laws.Reading.{child-facts}
 use Rattle.rules.specs.Laws.Sums.{sum-same, onto}
 use Rattle.rules.specs.Laws.Queue.{Queue, sizeIf, queue-end, queue-cover, queue-begins, queue-sum}
 use Rattle.rules.specs.Laws.Fits.{FitsAt, NumberedAt}
 use Rattle.rules.specs.Laws.Below.{top, child-level, below-children, row-roots, row-children}
+use Rattle.rules.specs.Laws.Numbers.{at-turn}
 
 -- The same in sizes as in what stands below.
 same-size : (n : ℕ) (t : Tables) (P E : ℕ → ℕ) (test : ℕ → Bool) (c : ℕ) → (T (test c) → E c - P c ≡ below n t c) → sizeIf P E test c ≡ belowIf n t test c
@@ -144,13 +144,10 @@ module _ {n : ℕ} {t : Tables} {P E O : ℕ → ℕ} (F : (v : ℕ) → v < n �
     fits-turn v h = turn-by (lev t v) v h refl
 
     whose-at : (i : ℕ) → i < n → O i ≡ atTurn n t i
-    unfolding atTurn
     whose-at i h =
-        let test : ℕ → Bool = λ v. eqb (turn n t v) i in
         let (u, hu, e) = onto P n (λ v g. F v g .inside) one i h in
-        let w = first test n in
-        let hw : w < n = omega (arith, first-below test n u hu (eq→eqb (turn n t u) i (sym (fits-turn u hu) ∙ e))) in
-        ap O (sym (fits-turn w hw ∙ eqb→eq (turn n t w) i (first-passes test n hw))) ∙ F w hw .back
+        let g : O i ≡ u = ap O (sym e) ∙ F u hu .back in
+        g ∙ sym (at-turn n t L u hu) ∙ ap (atTurn n t) (sym (fits-turn u hu) ∙ e)
 
     ends-end : (v : ℕ) → v < n → E v ≡ end n t v
     unfolding end
