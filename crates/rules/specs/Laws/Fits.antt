@@ -1,4 +1,4 @@
--- Three tables are the numbers of a forest exactly when each fragment's words fit those of its parent, its first child and the next one beside it.
+-- When three words of each fragment fit those of its parent, its first child and the next one beside it, and when they are the numbers of the forest.
 -- Assumes nothing.
 use Prim.Native.Nat.{ℕ, suc, _<_}
 use mathlib.Core.Path.{_≡_}
