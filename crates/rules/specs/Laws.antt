@@ -28,6 +28,12 @@ pub mod Met
 pub mod Removal
 pub mod Reading
 pub mod SameNumbers
+pub mod Sums
+pub mod Below
+pub mod Numbers
+pub mod Fits
+pub mod Queue
+pub mod Numbered
 pub mod Without
 pub mod Reports
 pub mod Adopting
