@@ -30,6 +30,8 @@ pub mod Reading
 pub mod Sums
 pub mod Below
 pub mod Numbers
+pub mod Fits
+pub mod NumberedFits
 pub mod Without
 pub mod Reports
 pub mod Adopting
