@@ -34,6 +34,7 @@ pub mod Numbers
 pub mod Fits
 pub mod Queue
 pub mod Numbered
+pub mod NumberedFits
 pub mod Without
 pub mod Reports
 pub mod Adopting
