@@ -7,7 +7,7 @@ use mathlib.Core.Logic.{_⊎_, inl, inr, _≢_, _↔_}
 use native.Mathlib.Omega.{arith}
 use native.Mathlib.Decide.{ℕ-discrete, decLt}
 use lib.Dec.{T, eqb, eqb→eq, eqb-refl}
-use Rattle.base.specs.Truth.{T-dec, eq→eqb}
+use Rattle.base.specs.Truth.{eq→eqb}
 use Rattle.rules.specs.Forest.{up, Levels, Over}
 use Rattle.rules.specs.Search.{first}
 use Rattle.rules.specs.Tables.{Tables, par, lev}
@@ -17,7 +17,7 @@ use Rattle.rules.specs.Laws.Search.{first-passes, first-below, some-coun
 use Rattle.rules.specs.Laws.Up.{par-in, root-par, root-lev, child-lev, level-arrives, up-in, up-over, over-refl, over-in, over-lev, over-same, over-antisym, over-child, over-par, over-up, over-down, over-dec}
 use Rattle.rules.specs.Laws.Reading.{above-test, child-facts}
 use Rattle.rules.specs.Laws.Sums.{onto}
-use Rattle.rules.specs.Laws.Below.{top, Row, row-first, row-start, row-within, row-rise, row-next, row-roots, row-children, beside-root, beside-child}
+use Rattle.rules.specs.Laws.Below.{row-first, row-start, row-within, row-rise, row-next, row-roots, row-children, beside-root, beside-child}
 pub use Rattle.rules.specs.Laws.Below.{turn-root, turn-child, below-children}
 
 module _ (n : ℕ) (t : Tables) (L : Levels n (par t) (lev t)) where
