@@ -1,28 +1,27 @@
 -- What stands below a fragment: the parts of a forest, and the rows in which they take their turns.
 -- Assumes nothing.
-use Prim.Native.Nat.{ℕ, zero, suc, _+_, _-_, _≤_, _<_}
+use Prim.Native.Nat.{ℕ, suc, _+_, _≤_, _<_}
 use mathlib.Core.Path.{_≡_, refl, sym, ap, _∙_, subst}
 use mathlib.Core.Bool.{Bool, true, _&&_, not}
 use mathlib.Core.Logic.{_⊎_, inl, inr, _≢_, _↔_}
 use native.Mathlib.Omega.{arith}
-use native.Mathlib.Decide.{ℕ-discrete}
-use lib.Dec.{T, eqb, eqb→eq, eqb-refl, T-not, not-T}
+use lib.Dec.{T, eqb, eqb→eq, T-not, not-T}
 use borrow.Author.Tests.{eq-eqb, ne-eqb}
 use Rattle.base.specs.Pick.{pick}
-use Rattle.base.specs.Truth.{and-intro, and-l, and-r, T-dec, T-true, T-false, T-ext, eq→eqb}
+use Rattle.base.specs.Truth.{and-intro, and-l, and-r, T-true, T-false, T-ext, eq→eqb}
 use Rattle.rules.specs.Forest.{up, Levels, Over}
 use Rattle.rules.specs.Search.{count, sum}
 use Rattle.rules.specs.Tables.{Tables, par, lev}
-use Rattle.rules.specs.Reading.{above, childOf, rootOf}
+use Rattle.rules.specs.Reading.{above, childOf}
 use Rattle.rules.specs.Numbers.{below, belowIf, beside, passed, turnAt, turn, end}
-use Rattle.rules.specs.Laws.Search.{count-one-more, count-same, some-count}
-use Rattle.rules.specs.Laws.Up.{par-in, root-par, root-lev, child-lev, level-arrives, up-over, over-refl, over-in, over-lev, over-same, over-meet, over-trans, over-child, over-par-of, up-in}
+use Rattle.rules.specs.Laws.Search.{count-one-more}
+use Rattle.rules.specs.Laws.Up.{root-lev, child-lev, level-arrives, up-over, over-refl, over-in, over-lev, over-same, over-meet, over-child, over-par-of, up-in}
 use Rattle.rules.specs.Laws.Reading.{above-test, child-facts}
 use Rattle.rules.specs.Laws.Sums.{count-all, count-parts, sum-zero, sum-suc, sum-step, sum-next}
 
 -- The test of a root.
-abbrev pub top : Tables → ℕ → Bool
-top t c = eqb (par t c) c
+abbrev pub isRoot : Tables → ℕ → Bool
+isRoot t c = eqb (par t c) c
 
 module _ (n : ℕ) (t : Tables) where
   below-if-yes : (test : ℕ → Bool) (c : ℕ) → T (test c) → belowIf n t test c ≡ below n t c
@@ -67,7 +66,7 @@ module _ (n : ℕ) (t : Tables) where
         | inr (u, l, hu, r, a) ↦ inr (u, hu, r, l, omega (arith, row-end, R .turns u hu r))
       ]
 
-  pub beside-root : (v : ℕ) → par t v ≡ v → beside t v ≡ top t
+  pub beside-root : (v : ℕ) → par t v ≡ v → beside t v ≡ isRoot t
   unfolding beside pick
   beside-root v e = ap {B = ℕ → Bool} (λ (b : Bool) (c : ℕ). pick b (eqb (par t c) c) (childOf t (par t v) c)) (eq-eqb (par t v) v e)
 
@@ -96,11 +95,11 @@ module _ (n : ℕ) (t : Tables) where
     above-in c u h a = over-in L c u h (above-test t c u .0 a)
 
     -- Each is below one root.
-    below-roots : sum (belowIf n t (top t)) n ≡ n
+    below-roots : sum (belowIf n t (isRoot t)) n ≡ n
     unfolding belowIf below
     below-roots =
-        let level : (u c : ℕ) → u < n → T (top t c) → T (above t c u) → lev t c ≡ 0 = λ u c h q a. root-lev L c (above-in c u h a) (eqb→eq (par t c) c q) in
-        sym (count-parts (top t) (above t) (λ u. true) n n
+        let level : (u c : ℕ) → u < n → T (isRoot t c) → T (above t c u) → lev t c ≡ 0 = λ u c h q a. root-lev L c (above-in c u h a) (eqb→eq (par t c) c q) in
+        sym (count-parts (isRoot t) (above t) (λ u. true) n n
         (λ u h q. let r = up (par t) (lev t u) u in (r, up-in L (lev t u) u h, eq→eqb (par t r) r (level-arrives L u h), above-test t r u .1 (up-over L (lev t u) u h)))
         (λ u c h q a. tt)
         (λ u c d h q a r b. above-one u c d h a b (level u c h q a ∙ sym (level u d h r b))))
@@ -109,31 +108,45 @@ module _ (n : ℕ) (t : Tables) where
     pub child-level : (v c : ℕ) → c < n → T (childOf t v c) → lev t c ≡ suc (lev t v)
     child-level v c h q = let (e, d) = child-facts t v c .0 q in omega (arith, ap (lev t) e, child-lev L c h (λ k. d (sym k ∙ e)))
 
+    -- u is below v and another.
+    abbrev under : (v u : ℕ) → Bool
+    under v u = above t v u && not (eqb u v)
+
+    under-facts : (v u : ℕ) → T (under v u) ↔ (Over (par t) (lev t) v u × (u ≢ v))
+    under-facts v u =
+        let a = above t v u in
+        let b = eqb u v in (
+          (λ q. (above-test t v u .0 (and-l a (not b) q), (λ e. T-not b (and-r a (not b) q) (eq→eqb u v e)))),
+          (λ (o, d). and-intro a (not b) (above-test t v u .1 o) (not-T b (λ q. d (eqb→eq u v q)))),
+        )
+
+    under-count : (v : ℕ) → v < n → count (above t v) n ≡ suc (count (under v) n)
+    under-count v h =
+        count-one-more (under v) (above t v) n v h
+        (λ q. under-facts v v .0 q .1 refl)
+        (above-test t v v .1 (over-refl L v))
+        (λ u l d. T-ext (under v u) (above t v u) (and-l (above t v u) (not (eqb u v))) (λ a. under-facts v u .1 (above-test t v u .0 a, d)))
+
     -- v itself, and what stands below its children.
     pub below-children : (v : ℕ) → v < n → below n t v ≡ suc (sum (belowIf n t (childOf t v)) n)
     unfolding belowIf below
     below-children v h =
-        let p : ℕ → Bool = λ u. above t v u && not (eqb u v) in
         let level : (u c : ℕ) → u < n → T (childOf t v c) → T (above t c u) → lev t c ≡ suc (lev t v) = λ u c l q a. child-level v c (above-in c u l a) q in
-        count-one-more p (above t v) n v h
-        (λ q. T-not (eqb v v) (and-r (above t v v) (not (eqb v v)) q) (eqb-refl v))
-        (above-test t v v .1 (over-refl L v))
-        (λ k l d. T-ext (p k) (above t v k) (and-l (above t v k) (not (eqb k v))) (λ a. and-intro (above t v k) (not (eqb k v)) a (not-T (eqb k v) (λ q. d (eqb→eq k v q)))))
-        ∙ ap suc (count-parts (childOf t v) (above t) p n n
+        under-count v h
+        ∙ ap suc (count-parts (childOf t v) (above t) (under v) n n
         (λ u l q.
-        let a : Over (par t) (lev t) v u = above-test t v u .0 (and-l (above t v u) (not (eqb u v)) q) in
-        let (c, hc, e, m, o) = over-child L v u l a (λ k. T-not (eqb u v) (and-r (above t v u) (not (eqb u v)) q) (eq→eqb u v (sym k))) in
+        let (a, d) = under-facts v u .0 q in
+        let (c, hc, e, m, o) = over-child L v u l a (λ k. d (sym k)) in
         (c, hc, child-facts t v c .1 (e, (λ k. omega (arith, ap (lev t) k))), above-test t c u .1 o))
         (λ u c l q a.
         let o : Over (par t) (lev t) c u = above-test t c u .0 a in
-        and-intro (above t v u) (not (eqb u v))
-        (above-test t v u .1 (subst (λ (x : ℕ). Over (par t) (lev t) x u) (child-facts t v c .0 q .0) (over-par-of L c u l o)))
-        (not-T (eqb u v) (λ k. omega (arith, ap (lev t) (eqb→eq u v k), level u c l q a, over-lev L c u l o))))
+        under-facts v u .1
+        (subst (λ (x : ℕ). Over (par t) (lev t) x u) (child-facts t v c .0 q .0) (over-par-of L c u l o), (λ k. omega (arith, ap (lev t) k, level u c l q a, over-lev L c u l o))))
         (λ u c d l q a r b. above-one u c d l a b (level u c l q a ∙ sym (level u d l r b))))
 
-    pub row-roots : Row (top t) 0 n
+    pub row-roots : Row (isRoot t) 0 n
     row-roots = record {
-      turns = λ c h q. let e : par t c ≡ c = eqb→eq (par t c) c q in omega (arith, turn-root c h e, passed-is c (top t) (beside-root c e));
+      turns = λ c h q. let e : par t c ≡ c = eqb→eq (par t c) c q in omega (arith, turn-root c h e, passed-is c (isRoot t) (beside-root c e));
       whole = omega (arith, below-roots);
     }
 

@@ -2,14 +2,14 @@
 -- Assumes nothing.
 use Prim.Native.Nat.{ℕ, suc, _<_}
 use mathlib.Core.Path.{_≡_, sym, ap, _∙_, subst}
-use mathlib.Core.Logic.{inl, inr, _≢_}
+use mathlib.Core.Logic.{inl, inr}
 use native.Mathlib.Omega.{arith}
 use Rattle.rules.specs.Forest.{Levels}
 use Rattle.rules.specs.Tables.{Tables, par, lev}
-use Rattle.rules.specs.Numbers.{turn, end, atTurn}
+use Rattle.rules.specs.Numbers.{turn, end}
 use Rattle.rules.specs.Laws.Up.{par-in}
 use Rattle.rules.specs.Laws.Numbers.{turn-in, at-turn, turn-end, child-turn, next-root, next-child, first-child}
-use Rattle.rules.specs.Laws.Fits.{Under, NextRoot, FitsAt, NumberedAt}
+use Rattle.rules.specs.Laws.Fits.{Under, FitsAt, NumberedAt}
 
 module _ (n : ℕ) (t : Tables) (P E O : ℕ → ℕ) (L : Levels n (par t) (lev t)) (N : (v : ℕ) → v < n → NumberedAt n t P E O v) where
   -- Whose turn is i.

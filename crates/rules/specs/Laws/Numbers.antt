@@ -7,7 +7,7 @@ use mathlib.Core.Logic.{_⊎_, inl, inr, _≢_, _↔_}
 use native.Mathlib.Omega.{arith}
 use native.Mathlib.Decide.{ℕ-discrete, decLt}
 use lib.Dec.{T, eqb, eqb→eq, eqb-refl}
-use Rattle.base.specs.Truth.{T-dec, eq→eqb}
+use Rattle.base.specs.Truth.{eq→eqb}
 use Rattle.rules.specs.Forest.{up, Levels, Over}
 use Rattle.rules.specs.Search.{first}
 use Rattle.rules.specs.Tables.{Tables, par, lev}
@@ -17,7 +17,7 @@ use Rattle.rules.specs.Laws.Search.{first-passes, first-below, some-coun
 use Rattle.rules.specs.Laws.Up.{par-in, root-par, root-lev, child-lev, level-arrives, up-in, up-over, over-refl, over-in, over-lev, over-same, over-antisym, over-child, over-par, over-up, over-down, over-dec}
 use Rattle.rules.specs.Laws.Reading.{above-test, child-facts}
 use Rattle.rules.specs.Laws.Sums.{onto}
-use Rattle.rules.specs.Laws.Below.{top, Row, row-first, row-start, row-within, row-rise, row-next, row-roots, row-children, beside-root, beside-child}
+use Rattle.rules.specs.Laws.Below.{row-first, row-start, row-within, row-rise, row-next, row-roots, row-children, beside-root, beside-child}
 pub use Rattle.rules.specs.Laws.Below.{turn-root, turn-child, below-children}
 
 module _ (n : ℕ) (t : Tables) (L : Levels n (par t) (lev t)) where
@@ -149,6 +149,7 @@ module _ (n : ℕ) (t : Tables) (L : Levels n (par t) (lev t)) where
         | no l ↦ inr (omega (arith, beside-turn (F .right) (F .left) hr hl (F .left-right) (omega (arith, F .apart)), over-turn (F .left) a ha (F .over-left), over-turn (F .right) b hb (F .over-right)))
       ]
 
+  -- Those below a have the turns from a's own up to where they end.
   pub above-range : (a b : ℕ) → a < n → b < n → T (above t a b) ↔ ((turn n t a ≤ turn n t b) × (turn n t b < end n t a))
   above-range a b ha hb = (
     (λ q. let (x, y) = over-turn a b hb (above-test t a b .0 q) in (x, omega (arith, turn-end b hb))),
@@ -184,6 +185,7 @@ module _ (n : ℕ) (t : Tables) (L : Levels n (par t) (lev t)) where
       let (u, l, e) = onto (turn n t) n turn-in turn-one i h in
       subst (λ (j : ℕ). (atTurn n t j < n) × (turn n t (atTurn n t j) ≡ j)) e (rw (at-turn u l) (l, refl))
 
+  -- Where the turns of v end, the next one beside it comes, or those of its parent end too, or all end.
   pub next-root : (v : ℕ) → v < n → par t v ≡ v → (end n t v ≡ n) ⊎ ((u : ℕ) × (u < n) × (par t u ≡ u) × (v < u) × (turn n t u ≡ end n t v))
   next-root v h e = elim (row-next n t (row-roots n t L) v h (eq→eqb (par t v) v e)) [
     | inl a ↦ inl a
@@ -196,6 +198,7 @@ module _ (n : ℕ) (t : Tables) (L : Levels n (par t) (lev t)) where
     | inr (u, l, q, r, a) ↦ inr (u, l, child-facts t (par t v) u .0 q .0, r, a)
   ]
 
+  -- Behind v its first child comes, where it has one.
   pub first-child : (v : ℕ) → v < n → (end n t v ≡ suc (turn n t v)) ⊎ ((u : ℕ) × (u < n) × (par t u ≡ v) × (u ≢ v) × (turn n t u ≡ suc (turn n t v)))
   first-child v h = elim (row-first n t (row-children n t L v h)) [
     | inl a ↦ inl (sym a)
