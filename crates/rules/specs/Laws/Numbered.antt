@@ -19,7 +19,7 @@ use Rattle.rules.specs.Laws.Reading.{child-facts}
 use Rattle.rules.specs.Laws.Sums.{sum-same, onto}
 use Rattle.rules.specs.Laws.Queue.{Queue, sizeIf, queue-end, queue-cover, queue-begins, queue-sum}
 use Rattle.rules.specs.Laws.Fits.{FitsAt, NumberedAt}
-use Rattle.rules.specs.Laws.Below.{top, child-level, below-children, row-roots, row-children}
+use Rattle.rules.specs.Laws.Below.{isRoot, child-level, below-children, row-roots, row-children}
 use Rattle.rules.specs.Laws.Numbers.{at-turn}
 
 -- The same in sizes as in what stands below.
@@ -65,7 +65,7 @@ module _ {n : ℕ} {t : Tables} {P E O : ℕ → ℕ} (F : (v : ℕ) → v < n �
         ];
   }
 
-  roots : Queue n P E (top t) 0 n
+  roots : Queue n P E (isRoot t) 0 n
   roots = record {
     wide = λ c h. F c h .wide;
     same = one;
@@ -105,7 +105,7 @@ module _ {n : ℕ} {t : Tables} {P E O : ℕ → ℕ} (F : (v : ℕ) → v < n �
     apart-children : (p c d : ℕ) → c < n → d < n → T (childOf t p c) → T (childOf t p d) → P c ≤ P d → P d < E c → c ≡ d
     apart-children p c d hc hd qc qd = apart c d hc hd (child-level n t L p c hc qc ∙ sym (child-level n t L p d hd qd))
 
-    apart-roots : (c d : ℕ) → c < n → d < n → T (top t c) → T (top t d) → P c ≤ P d → P d < E c → c ≡ d
+    apart-roots : (c d : ℕ) → c < n → d < n → T (isRoot t c) → T (isRoot t d) → P c ≤ P d → P d < E c → c ≡ d
     apart-roots c d hc hd qc qd = apart c d hc hd (root-lev L c hc (eqb→eq (par t c) c qc) ∙ sym (root-lev L d hd (eqb→eq (par t d) d qd)))
 
     -- From its turn to its end v has as many places as stand below it.
@@ -125,8 +125,8 @@ module _ {n : ℕ} {t : Tables} {P E O : ℕ → ℕ} (F : (v : ℕ) → v < n �
 
     turn-by : (k v : ℕ) → v < n → lev t v ≡ k → P v ≡ turn n t v
     turn-by zero v h e =
-        let q : T (top t v) = eq→eqb (par t v) v (root-par L v h e) in
-        omega (arith, queue-begins roots apart-roots v h q, sizes (top t) v h, row-roots n t L .turns v h q)
+        let q : T (isRoot t v) = eq→eqb (par t v) v (root-par L v h e) in
+        omega (arith, queue-begins roots apart-roots v h q, sizes (isRoot t) v h, row-roots n t L .turns v h q)
     turn-by (suc k) v h e =
         let p = par t v in
         let hp : p < n = par-in L v h in
