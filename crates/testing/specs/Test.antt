@@ -1,17 +1,19 @@
--- The test of the tables (refusal 11) as it is computed, but for the held links: what the state says, one pass over the fragments, and the words that must be 0.
+-- The test of the tables (refusal 11) as it is computed, but for the held links: what the state says, one pass over the fragments, the words that must be 0, and one
+-- pass over the numbers.
 -- Definitions only.
 -- Assumes nothing.
-use Prim.Native.Nat.{ℕ, suc, pred, _*_}
+use Prim.Native.Nat.{ℕ, suc, pred, _+_, _-_, _*_}
 use mathlib.Core.Bool.{Bool, _||_, _&&_, not}
 use mathlib.Core.List.{List}
 use lib.Dec.{ltb, leb, eqb}
-use lib.ListN.{length}
+use lib.ListN.{length, take, drop}
 use Rattle.base.specs.Pick.{pick}
 use Rattle.base.specs.Link.{Link}
+use Rattle.rules.specs.Search.{every}
 use Rattle.rules.specs.Tables.{Tables, parentOf, noteOf, markOf, placed}
-use Rattle.state.specs.Layout.{tablesIn}
+use Rattle.state.specs.Layout.{words, stored, numbers, tablesIn, forestIn, turnIn, endIn, whoseIn}
 use Rattle.state.specs.Call.{boundsRefusal}
-use Rattle.state.specs.Test.{entriesMost, isBuilding, isBuilt, isReading, isRead, asked, stageFits, standsAt, forestFits, endsFit, noneTwice, quotaFits, clearAt, lowFits, notesFit, restZero, countsFit, readFits, restAgrees}
+use Rattle.state.specs.Test.{entriesMost, isBuilding, isBuilt, isReading, isRead, isNumbered, asked, allZero, stageFits, standsAt, forestFits, endsFit, noneTwice, quotaFits, clearAt, lowFits, notesFit, restZero, countsFit, readFits, restAgrees, numbersFit}
 use Rattle.state.specs.declared.State.{State}
 use Rattle.state.specs.declared.Stage.{Stage}
 
@@ -24,7 +26,8 @@ fitsButLinks s t f h =
     && (restZero s f h
     && (countsFit s t
     && (readFits s t
-    && restAgrees s t)))))
+    && (restAgrees s t
+    && numbersFit s t f))))))
 
 unfoldable pub soundButLinks : State → List ℕ → List ℕ → Bool
 soundButLinks s f h = fitsButLinks s (tablesIn s f h) f h
@@ -54,7 +57,7 @@ waitsAt n t v =
 
 -- What it asks of the note and the mark of a placed one.
 unfoldable pub notedAt : Stage → Tables → ℕ → Bool
-notedAt g t v = pick (isReading g || isRead g) (lowFits t v && markAt (isRead g) t v) (clearAt t v)
+notedAt g t v = pick (isNumbered g) (lowFits t v && markAt (isRead g) t v) (clearAt t v)
 
 -- What it asks of the fragment v.
 unfoldable pub fragmentFits : Stage → ℕ → Tables → ℕ → Bool
@@ -71,3 +74,40 @@ stageHolds s placed =
     && (asked (not (isBuilding (s .stage))) (eqb (s .held) 0)
     && (asked (isBuilt (s .stage)) (eqb (s .entries) 0)
     && asked (not (isReading (s .stage))) (not (s .crossed))))
+
+-- The fragment whose turn is i by the words of f is one of n, and its parent is p.
+unfoldable pub underAt : ℕ → Tables → List ℕ → (p i : ℕ) → Bool
+underAt n t f p i = ltb i n && (ltb (whoseIn n f i) n && eqb (parentOf t (whoseIn n f i)) p)
+
+-- v comes at its own turn, and what stands below it ends there or begins with a child.
+unfoldable pub comesAt : ℕ → Tables → List ℕ → ℕ → Bool
+comesAt n t f v =
+    ltb (turnIn n f v) n
+    && (eqb (whoseIn n f (turnIn n f v)) v
+    && (ltb (turnIn n f v) (endIn n f v)
+    && (eqb (endIn n f v) (suc (turnIn n f v)) || underAt n t f v (suc (turnIn n f v)))))
+
+-- The fragment whose turn is i is greater than v, and its parent is p.
+unfoldable pub risesTo : ℕ → Tables → List ℕ → (v p i : ℕ) → Bool
+risesTo n t f v p i = ltb v (whoseIn n f i) && underAt n t f p i
+
+-- Behind a root comes a greater root, or nothing;
+unfoldable pub rootFits : ℕ → Tables → List ℕ → ℕ → Bool
+rootFits n t f v = eqb (endIn n f v) n || risesTo n t f v (whoseIn n f (endIn n f v)) (endIn n f v)
+
+-- behind a child of p, which comes later than p, a greater child of p, or what comes behind p.
+unfoldable pub childFits : ℕ → Tables → List ℕ → (p v : ℕ) → Bool
+childFits n t f p v =
+    ltb (turnIn n f p) (turnIn n f v)
+    && (eqb (endIn n f v) (endIn n f p) || risesTo n t f v p (endIn n f v))
+
+-- What the test asks of the numbers of v.
+unfoldable pub wordsFit : ℕ → Tables → List ℕ → ℕ → Bool
+wordsFit n t f v = comesAt n t f v && pick (eqb (parentOf t v) v) (rootFits n t f v) (childFits n t f (parentOf t v) v)
+
+-- What it asks of the words behind the sections of every stage.
+unfoldable pub restFits : ℕ → Stage → List ℕ → Bool
+restFits n g f =
+    pick (isNumbered g)
+    (allZero (take (words * n - (stored + numbers) * n) (drop ((stored + numbers) * n) f)) && every (wordsFit n (forestIn n f) f) n)
+    (allZero (take (words * n - stored * n) (drop (stored * n) f)))

@@ -1,15 +1,15 @@
 // The test of the tables, refusal 11, but for the held links: what the state says, one pass over the fragments, and the words that must be 0.
 ghost use Prim.Native.Nat.{_≤_};
-ghost use mathlib.Core.Bool.{_||_};
 ghost use mathlib.Core.Path.{_≡_};
 ghost use lib.ListN.{length};
 ghost use Rattle.rules.specs.Search.{count, every};
 ghost use Rattle.rules.specs.Tables.{placed as isPlaced};
 ghost use Rattle.state.specs.Layout.{forestIn};
 ghost use Rattle.state.specs.Call.{fragmentsMost, roomMost};
-ghost use Rattle.state.specs.Test.{isReading, isRead, standsAt, clearAt, asked as askedIf};
+ghost use Rattle.state.specs.Test.{isNumbered, standsAt, clearAt, asked as askedIf};
 ghost use Rattle.state.specs.Laws.Bounds.{Bounds};
-ghost use Rattle.testing.specs.Test.{markAt, waitsAt, notedAt, fragmentFits, countsHold, stageHolds, soundButLinks};
+ghost use Rattle.testing.specs.Test.{markAt, waitsAt, notedAt, fragmentFits, countsHold, stageHolds, restFits, soundButLinks};
+use crate::turns::numbers_fit;
 use state::Stage;
 use state::State;
 use state::is_building;
@@ -17,6 +17,7 @@ use state::is_built;
 use state::is_read;
 use state::is_reading;
 use state::zeros;
+use tables::SCRATCH;
 use tables::STORED;
 use tables::level_of;
 use tables::mark_at;
@@ -102,7 +103,7 @@ fn noted(frag: &[u32], n: usize, stage: Stage, v: usize) -> bool
 }
 
 fn reads(g: Stage) -> bool
-    ensures { λ r. ⌜ r ≡ (isReading g || isRead g) ⌝ }
+    ensures { λ r. ⌜ r ≡ isNumbered g ⌝ }
 {
     match g {
         Stage::Building => false,
@@ -195,6 +196,20 @@ fn stage_holds(s: State, placed: usize) -> bool
     asked(!is_reading(stage), !s.crossed)
 }
 
+// Scratch is 0, and the forest's numbers are those of the forest where it is numbered.
+fn rest_fits(frag: &[u32], n: usize, stage: Stage) -> bool
+    requires { ⌜ n ≤ fragmentsMost ⌝ }
+    ensures { λ r. ⌜ r ≡ restFits n stage (now (frag .entry)) ⌝ }
+{
+    if !reads(stage) {
+        return zeros(frag, STORED * n, State::WORDS * n);
+    }
+    if !zeros(frag, SCRATCH * n, State::WORDS * n) {
+        return false;
+    }
+    numbers_fit(frag, n)
+}
+
 // Everything but the held links.
 pub(crate) fn but_links(s: State, frag: &[u32], held: &[u32]) -> bool
     requires { ⌜ Bounds (s .n) (s .k) (length (now frag)) (length (now held)) ⌝ }
@@ -215,5 +230,5 @@ pub(crate) fn but_links(s: State, frag: &[u32], held: &[u32]) -> bool
     if !zeros(held, s.held, s.k * n) {
         return false;
     }
-    zeros(frag, STORED * n, State::WORDS * n)
+    rest_fits(frag, n, stage)
 }

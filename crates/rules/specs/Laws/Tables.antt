@@ -271,14 +271,19 @@ fresh-standing n = record {
 }
 
 -- A forest that stands has the law of levels.
-pub standing-levels : {n : ℕ} {t : Tables} → Standing n t → Levels n (par t) (lev t)
-standing-levels {n} {t} S v h = elim (placed-or-loose t v) [
-  | inl q ↦ elim (S .stands v h q) [
-    | inl a ↦ inl (par-placed t v q ∙ a .0, lev-rank t v ∙ omega (arith, a .1))
-    | inr a ↦ inr (rw (par-placed t v q) (a .0), lev-rank t v ∙ rw (par-placed t v q, lev-rank t (parentOf t v)) (omega (arith, a .2, placed-rank t (parentOf t v) (a .1))))
+module _ (n : ℕ) (t : Tables)
+    (stands : (v : ℕ) → v < n → T (placed t v) → ((parentOf t v ≡ v) × (rank t v ≡ 1)) ⊎ ((parentOf t v < n) × T (placed t (parentOf t v)) × (rank t v ≡ suc (rank t (parentOf t v))))) where
+  pub levels-stand : Levels n (par t) (lev t)
+  levels-stand v h = elim (placed-or-loose t v) [
+    | inl q ↦ elim (stands v h q) [
+      | inl a ↦ inl (par-placed t v q ∙ a .0, lev-rank t v ∙ omega (arith, a .1))
+      | inr a ↦ inr (rw (par-placed t v q) (a .0), lev-rank t v ∙ rw (par-placed t v q, lev-rank t (parentOf t v)) (omega (arith, a .2, placed-rank t (parentOf t v) (a .1))))
+    ]
+    | inr e ↦ inl (par-loose t v e, lev-rank t v ∙ omega arith)
   ]
-  | inr e ↦ inl (par-loose t v e, lev-rank t v ∙ omega arith)
-]
+
+pub standing-levels : {n : ℕ} {t : Tables} → Standing n t → Levels n (par t) (lev t)
+standing-levels {n} {t} S = levels-stand n t (S .stands)
 
 -- It stands too in tables of the same forest.
 pub standing-same : {n : ℕ} {s t : Tables} → SameForest s t → length (s .note) ≡ n → length (s .mark) ≡ n → Standing n t → Standing n s

@@ -30,20 +30,25 @@ built-alone Built b x = x
 built-alone Reading b x = b
 built-alone Read b x = b
 
+-- Where one fragment stands.
+pub stands-at : (n : ℕ) (t : Tables) (v : ℕ) → T (standsAt n t v) → ((parentOf t v ≡ v) × (rank t v ≡ 1)) ⊎ ((parentOf t v < n) × T (placed t (parentOf t v)) × (rank t v ≡ suc (rank t (parentOf t v))))
+unfolding standsAt
+stands-at n t v z =
+    let root = eqb (parentOf t v) v in
+    let in-range = ltb (parentOf t v) n in
+    let under = placed t (parentOf t v) in
+    elim (or-cases (root && eqb (rank t v) 1) _ z) [
+      | inl x ↦ inl (eqb→eq (parentOf t v) v (and-l root _ x), eqb→eq (rank t v) 1 (and-r root _ x))
+      | inr x ↦
+          let y = and-r in-range _ x in
+          inr (ltb→lt (parentOf t v) n (and-l in-range _ x), and-l under _ y, eqb→eq (rank t v) (suc (rank t (parentOf t v))) (and-r under _ y))
+    ]
+
 -- From the clauses to the facts.
 module _ (s : State) (t : Tables) (c : Clauses s t) where
   stands-known : (v : ℕ) → v < s .n → T (placed t v) → ((parentOf t v ≡ v) × (rank t v ≡ 1)) ⊎ ((parentOf t v < s .n) × T (placed t (parentOf t v)) × (rank t v ≡ suc (rank t (parentOf t v))))
-  unfolding forestFits standsAt
-  stands-known v l p =
-      let root = eqb (parentOf t v) v in
-      let in-range = ltb (parentOf t v) (s .n) in
-      let under = placed t (parentOf t v) in
-      elim (or-cases (root && eqb (rank t v) 1) _ (asked-use (placed t v) (standsAt (s .n) t v) (every-at _ (s .n) (c .forest) v l) p)) [
-        | inl x ↦ inl (eqb→eq (parentOf t v) v (and-l root _ x), eqb→eq (rank t v) 1 (and-r root _ x))
-        | inr x ↦
-            let y = and-r in-range _ x in
-            inr (ltb→lt (parentOf t v) (s .n) (and-l in-range _ x), and-l under _ y, eqb→eq (rank t v) (suc (rank t (parentOf t v))) (and-r under _ y))
-      ]
+  unfolding forestFits
+  stands-known v l p = stands-at (s .n) t v (asked-use (placed t v) (standsAt (s .n) t v) (every-at _ (s .n) (c .forest) v l) p)
 
   ends-clause : T (endsFit (s .n) t (t .held))
   unfolding heldFits

@@ -10,7 +10,7 @@ use native.Mathlib.Decide.{ℕ-discrete, decLt}
 use lib.Dec.{T, eqb, leb, ltb, eqb→eq, leb→le, le→leb, lt→ltb, ltb→lt, T-not, not-T}
 use lib.ListN.{take, drop, length-take, drop-of-length-le}
 use Rattle.base.specs.Pick.{pick-true, pick-false}
-use Rattle.base.specs.Truth.{and-l, and-r, and-intro, or-l, or-r, or-cases, T-dec, T-true, T-false, false-T, T-ext, eq→eqb}
+use Rattle.base.specs.Truth.{and-l, and-r, and-intro, or-l, or-r, or-cases, T-dec, T-true, T-false, true-T, false-T, T-ext, eq→eqb}
 use Rattle.base.specs.Link.{Link}
 use Rattle.rules.specs.Search.{count, every}
 use Rattle.rules.specs.Tables.{Tables, parentOf, rank, noteOf, markOf, placed, par, lev}
@@ -19,16 +19,19 @@ use Rattle.rules.specs.Reading.{seen, accepted}
 use Rattle.rules.specs.Laws.Search.{every-at, every-intro, count-yes}
 use Rattle.rules.specs.Laws.Split.{tally-nil}
 use Rattle.rules.specs.Laws.Ceiling.{count-short}
-use Rattle.rules.specs.Laws.Tables.{par-placed}
-use Rattle.state.specs.Layout.{words, stored, tablesIn, forestIn, heldLinks}
-use Rattle.state.specs.Test.{entriesMost, isBuilding, isBuilt, isReading, isRead, asked, allZero, stageFits, standsAt, forestFits, endsFit, noneTwice, quotaFits, heldFits, noteFits, clearAt, lowFits, notesFit, restZero, countsFit, readFits, markFits, restAgrees, fits, sound}
+use Rattle.rules.specs.Forest.{Levels}
+use Rattle.rules.specs.Laws.Tables.{par-placed, levels-stand}
+use Rattle.state.specs.Layout.{words, stored, numbers, storedIn, tablesIn, forestIn, heldLinks}
+use Rattle.state.specs.Test.{entriesMost, isBuilding, isBuilt, isReading, isRead, isNumbered, asked, allZero, stageFits, standsAt, forestFits, endsFit, noneTwice, quotaFits, heldFits, noteFits, clearAt, lowFits, notesFit, restZero, countsFit, readFits, markFits, restAgrees, numbersFit, fits, sound}
 use Rattle.state.specs.Laws.Lists.{drop-take}
 use Rattle.state.specs.Laws.Held.{asked-use, asked-make}
 use Rattle.state.specs.Laws.Agrees.{orphans}
+use Rattle.state.specs.Laws.Known.{stands-at}
 use Rattle.state.specs.declared.State.{State}
 use Rattle.state.specs.declared.Stage.{Stage}
 use Rattle.state.specs.declared.Stage.the-variants.{Building, Built, Reading, Read}
-use Rattle.testing.specs.Test.{fitsButLinks, soundButLinks, linksFit, markAt, waitsAt, notedAt, fragmentFits, countsHold, stageHolds}
+use Rattle.testing.specs.Test.{fitsButLinks, soundButLinks, linksFit, markAt, waitsAt, notedAt, fragmentFits, countsHold, stageHolds, underAt, comesAt, risesTo, rootFits, childFits, wordsFit, restFits}
+use Rattle.testing.specs.Laws.Numbers.{words-are}
 use Rattle.testing.specs.Laws.Fragment.{mark-root, mark-none, mark-some}
 
 -- The marks of a reading pass.
@@ -248,34 +251,37 @@ module _ (s : State) (t : Tables) where
     read : T (readFits s t)
     rest : T (restAgrees s t)
 
-  kept-known : (f h : List ℕ) → T (fitsButLinks s t f h) → Kept × T (restZero s f h)
+  kept-known : (f h : List ℕ) → T (fitsButLinks s t f h) → Kept × T (restZero s f h) × T (numbersFit s t f)
   unfolding fitsButLinks
   kept-known f h x =
       let x2 = and-r (stageFits s t) _ x in
       let x3 = and-r (forestFits (s .n) t) _ x2 in
       let x4 = and-r (notesFit s t) _ x3 in
       let x5 = and-r (restZero s f h) _ x4 in
-      let x6 = and-r (countsFit s t) _ x5 in (
+      let x6 = and-r (countsFit s t) _ x5 in
+      let x7 = and-r (readFits s t) _ x6 in (
         record {
           stage = and-l (stageFits s t) _ x;
           forest = and-l (forestFits (s .n) t) _ x2;
           notes = and-l (notesFit s t) _ x3;
           counts = and-l (countsFit s t) _ x5;
           read = and-l (readFits s t) _ x6;
-          rest = and-r (readFits s t) _ x6;
+          rest = and-l (restAgrees s t) _ x7;
         },
         and-l (restZero s f h) _ x4,
+        and-r (restAgrees s t) _ x7,
       )
 
-  kept-made : (f h : List ℕ) → Kept → T (restZero s f h) → T (fitsButLinks s t f h)
+  kept-made : (f h : List ℕ) → Kept → T (restZero s f h) → T (numbersFit s t f) → T (fitsButLinks s t f h)
   unfolding fitsButLinks
-  kept-made f h c z =
+  kept-made f h c z x =
       and-intro (stageFits s t) _ (c .stage)
       (and-intro (forestFits (s .n) t) _ (c .forest)
       (and-intro (notesFit s t) _ (c .notes)
       (and-intro (restZero s f h) _ z
       (and-intro (countsFit s t) _ (c .counts)
-      (and-intro (readFits s t) _ (c .read) (c .rest))))))
+      (and-intro (readFits s t) _ (c .read)
+      (and-intro (restAgrees s t) _ (c .rest) x))))))
 
   -- From the clauses to what is computed.
   module _ (c : Kept) where
@@ -451,12 +457,6 @@ drop-part a b l = elim (decLt b a) [
       ap (λ i. drop a (take i l)) e ∙ drop-take a (b - a) l
 ]
 
-rest-words : (s : State) (f h : List ℕ) → restZero s f h ≡ allZero (take (s .k * s .n - s .held) (drop (s .held) h)) && allZero (take (words * s .n - stored * s .n) (drop (stored * s .n) f))
-unfolding restZero
-rest-words s f h =
-    let e : (words - stored) * s .n ≡ words * s .n - stored * s .n = omega arith in
-    rw (drop-part (s .held) (s .k * s .n) h, e)
-
 -- Of the tables only those of the fragments count.
 fragment-same : (g : Stage) (s : State) (f h : List ℕ) → fragmentFits g (s .n) (tablesIn s f h) ≡ fragmentFits g (s .n) (forestIn (s .n) f)
 unfolding fragmentFits waitsAt notedAt standsAt clearAt lowFits markAt placed lev parentOf rank noteOf markOf tablesIn
@@ -466,37 +466,95 @@ placed-same : (s : State) (f h : List ℕ) → placed (tablesIn s f h) ≡ place
 unfolding placed rank tablesIn
 placed-same s f h = refl
 
+words-same : (s : State) (f h : List ℕ) → wordsFit (s .n) (tablesIn s f h) f ≡ wordsFit (s .n) (forestIn (s .n) f) f
+unfolding wordsFit comesAt underAt risesTo rootFits childFits parentOf tablesIn
+words-same s f h = refl
+
+-- What lies behind the sections of every stage, where the fragments fit.
+module _ (s : State) (f h : List ℕ) (at : (v : ℕ) → v < s .n → At (s .stage) (s .n) (tablesIn s f h) v) where
+  abbrev t : Tables
+  t = tablesIn s f h
+
+  reads-placed : T (isNumbered (s .stage)) → (v : ℕ) → v < s .n → T (placed t v)
+  reads-placed r v l = at v l .settled (λ b. reads-alone (s .stage) r (or-l (isBuilding (s .stage)) (isBuilt (s .stage)) b))
+
+  reads-levels : Levels (s .n) (par t) (lev t)
+  reads-levels = levels-stand (s .n) t (λ v l p. stands-at (s .n) t v (at v l .stands p))
+
+  numbers-are : T (isNumbered (s .stage)) → numbersFit s t f ≡ every (wordsFit (s .n) (forestIn (s .n) f) f) (s .n)
+  unfolding numbersFit asked
+  numbers-are r =
+      rw (T-true (isNumbered (s .stage)) r) (sym (words-are (s .n) t f (reads-placed r) reads-levels) ∙ ap (λ p. every p (s .n)) (words-same s f h))
+
+  numbers-none : (T (isNumbered (s .stage)) → ⊥) → T (numbersFit s t f)
+  unfolding numbersFit
+  numbers-none r = asked-make (isNumbered (s .stage)) _ (λ b. absurd (r b))
+
+  abbrev free : Bool
+  free = allZero (take ((words - storedIn (s .stage)) * s .n) (drop (storedIn (s .stage) * s .n) f))
+
+  free-numbered : T (isNumbered (s .stage)) → free ≡ allZero (take (words * s .n - (stored + numbers) * s .n) (drop ((stored + numbers) * s .n) f))
+  unfolding storedIn
+  free-numbered r =
+      let e : (words - (stored + numbers)) * s .n ≡ words * s .n - (stored + numbers) * s .n = omega arith in
+      rw (T-true (isNumbered (s .stage)) r, pick-true, e)
+
+  free-plain : (T (isNumbered (s .stage)) → ⊥) → free ≡ allZero (take (words * s .n - stored * s .n) (drop (stored * s .n) f))
+  unfolding storedIn
+  free-plain r =
+      let e : (words - stored) * s .n ≡ words * s .n - stored * s .n = omega arith in
+      rw (T-false (isNumbered (s .stage)) r, pick-false, e)
+
+  abbrev unused : Bool
+  unused = allZero (take (s .k * s .n - s .held) (drop (s .held) h))
+
+  rest-is : restZero s f h && numbersFit s t f ≡ unused && restFits (s .n) (s .stage) f
+  unfolding restZero restFits
+  rest-is = elim (T-dec (isNumbered (s .stage))) [
+    | yes r ↦ rw (drop-part (s .held) (s .k * s .n) h, free-numbered r, numbers-are r, T-true (isNumbered (s .stage)) r, pick-true) (apart unused (allZero (take (words * s .n - (stored + numbers) * s .n) (drop ((stored + numbers) * s .n) f))) (every (wordsFit (s .n) (forestIn (s .n) f) f) (s .n)))
+    | no r ↦ rw (drop-part (s .held) (s .k * s .n) h, free-plain r, T-true (numbersFit s t f) (numbers-none r), T-false (isNumbered (s .stage)) r, pick-false) (alone (unused && allZero (take (words * s .n - stored * s .n) (drop (stored * s .n) f))))
+  ]
+    where
+      apart : (a b c : Bool) → (a && b) && c ≡ a && (b && c)
+      apart true b c = refl
+      apart false b c = refl
+
+      alone : (a : Bool) → a && true ≡ a
+      alone true = refl
+      alone false = refl
+
 -- The answers of the test on the way, where m fragments are placed.
 module _ (s : State) (f h : List ℕ) (m : ℕ) (em : m ≡ count (placed (forestIn (s .n) f)) (s .n)) where
   abbrev fragments : Bool
   fragments = every (fragmentFits (s .stage) (s .n) (forestIn (s .n) f)) (s .n)
 
-  abbrev unused : Bool
-  unused = allZero (take (s .k * s .n - s .held) (drop (s .held) h))
+  abbrev idle : Bool
+  idle = allZero (take (s .k * s .n - s .held) (drop (s .held) h))
 
-  abbrev scratch : Bool
-  scratch = allZero (take (words * s .n - stored * s .n) (drop (stored * s .n) f))
+  abbrev rest : Bool
+  rest = restFits (s .n) (s .stage) f
 
-  computed : soundButLinks s f h ≡ countsHold s m && (stageHolds s m && (fragments && (unused && scratch)))
+  computed : soundButLinks s f h ≡ countsHold s m && (stageHolds s m && (fragments && (idle && rest)))
   unfolding soundButLinks tablesIn
   computed =
       let t = tablesIn s f h in
       let e : m ≡ count (placed t) (s .n) = em ∙ ap (λ p. count p (s .n)) (sym (placed-same s f h)) in
       let same = fragment-same (s .stage) s f h in
-      rw e (T-ext (fitsButLinks s t f h) (countsHold s (count (placed t) (s .n)) && (stageHolds s (count (placed t) (s .n)) && (fragments && (unused && scratch))))
+      rw e (T-ext (fitsButLinks s t f h) (countsHold s (count (placed t) (s .n)) && (stageHolds s (count (placed t) (s .n)) && (fragments && (idle && rest))))
       (λ x.
-      let (c, z) = kept-known s t f h x in
+      let (c, z, y) = kept-known s t f h x in
       and-intro (countsHold s (count (placed t) (s .n))) _ (counts-pass s t c)
       (and-intro (stageHolds s (count (placed t) (s .n))) _ (stage-passes s t c)
       (and-intro fragments _ (every-intro _ (s .n) (λ v l. subst (λ p. T (p v)) same (at-made (s .stage) (s .n) t v (at-passes s t c v l))))
-      (subst T (rest-words s f h) z))))
+      (subst T (rest-is s f h (at-passes s t c)) (and-intro (restZero s f h) _ z y)))))
       (λ x.
       let y = and-r (countsHold s (count (placed t) (s .n))) _ x in
       let z = and-r (stageHolds s (count (placed t) (s .n))) _ y in
       let w = and-l fragments _ z in
-      kept-made s t f h (kept s t (and-l (countsHold s (count (placed t) (s .n))) _ x) (and-l (stageHolds s (count (placed t) (s .n))) _ y)
-      (λ v l. at-known (s .stage) (s .n) t v (subst (λ p. T (p v)) (sym same) (every-at _ (s .n) w v l))) refl)
-      (subst T (sym (rest-words s f h)) (and-r fragments _ z))))
+      let at : (v : ℕ) → v < s .n → At (s .stage) (s .n) t v = λ v l. at-known (s .stage) (s .n) t v (subst (λ p. T (p v)) (sym same) (every-at _ (s .n) w v l)) in
+      let r = subst T (sym (rest-is s f h at)) (and-r fragments _ z) in
+      kept-made s t f h (kept s t (and-l (countsHold s (count (placed t) (s .n))) _ x) (and-l (stageHolds s (count (placed t) (s .n))) _ y) at refl)
+      (and-l (restZero s f h) _ r) (and-r (restZero s f h) _ r)))
 
   pub but-counts : false ≡ countsHold s m → false ≡ soundButLinks s f h
   but-counts e = rw (computed, ← e)
@@ -510,13 +568,13 @@ module _ (s : State) (f h : List ℕ) (m : ℕ) (em : m ≡ count (placed (fores
       but-fragments e = rw (computed, ← h1, ← h2, ← e)
 
       module _ (h3 : true ≡ fragments) where
-        pub but-unused : false ≡ unused → false ≡ soundButLinks s f h
+        pub but-unused : false ≡ idle → false ≡ soundButLinks s f h
         but-unused e = rw (computed, ← h1, ← h2, ← h3, ← e)
 
-        pub but-scratch : true ≡ unused → (b : Bool) → b ≡ scratch → b ≡ soundButLinks s f h
-        but-scratch e b q = rw (computed, ← h1, ← h2, ← h3, ← e) q
+        pub but-rest : true ≡ idle → (b : Bool) → b ≡ rest → b ≡ soundButLinks s f h
+        but-rest e b q = rw (computed, ← h1, ← h2, ← h3, ← e) q
 
--- What it gives to one who looks at the held links: they have room, and the scratch is 0.
+-- What it gives to one who looks at the held links: they have room, and in Building the scratch is 0.
 module _ (s : State) (f h : List ℕ) (x : T (soundButLinks s f h)) where
   pub but-room : s .held ≤ s .k * s .n
   unfolding soundButLinks
@@ -524,9 +582,12 @@ module _ (s : State) (f h : List ℕ) (x : T (soundButLinks s f h)) where
       let t = tablesIn s f h in
       leb→le (s .held) (s .k * s .n) (and-r (asked (not (isReading (s .stage))) (not (s .crossed))) _ (rest-3 s t (kept-known s t f h x .0)))
 
-  pub but-blank : T (allZero (take ((words - stored) * s .n) (drop (stored * s .n) f)))
-  unfolding soundButLinks restZero
-  but-blank = and-r (allZero (drop (s .held) (take (s .k * s .n) h))) _ (kept-known s (tablesIn s f h) f h x .1)
+  pub but-blank : isBuilding (s .stage) ≡ true → T (allZero (take ((words - stored) * s .n) (drop (stored * s .n) f)))
+  unfolding soundButLinks restZero storedIn
+  but-blank b =
+      let r : isNumbered (s .stage) ≡ false = T-false (isNumbered (s .stage)) (λ y. reads-alone (s .stage) y (or-l (isBuilding (s .stage)) (isBuilt (s .stage)) (true-T (isBuilding (s .stage)) b))) in
+      let z = and-r (allZero (drop (s .held) (take (s .k * s .n) h))) _ (kept-known s (tablesIn s f h) f h x .1) in
+      (rw (r, pick-false) at z)
 
 -- The ends of links are asked of the fragment table alone.
 ends-alone : (s : State) (f h : List ℕ) (l : List Link) → endsFit (s .n) (tablesIn s f h) l ≡ endsFit (s .n) (forestIn (s .n) f) l
@@ -543,7 +604,7 @@ pub sound-is : (s : State) (f h : List ℕ) → sound s f h ≡ soundButLinks s 
 unfolding sound soundButLinks fits fitsButLinks
 sound-is s f h =
     let t = tablesIn s f h in
-    apart (stageFits s t) (forestFits (s .n) t) (heldFits (s .n) (s .k) t) (notesFit s t && (restZero s f h && (countsFit s t && (readFits s t && restAgrees s t))))
+    apart (stageFits s t) (forestFits (s .n) t) (heldFits (s .n) (s .k) t) (notesFit s t && (restZero s f h && (countsFit s t && (readFits s t && (restAgrees s t && numbersFit s t f)))))
     ∙ ap (λ b. fitsButLinks s t f h && b) (links-are s f h)
   where
     apart : (a b c d : Bool) → a && (b && (c && d)) ≡ (a && (b && d)) && c

@@ -5,7 +5,7 @@ use native.Mathlib.Omega.{arith}
 use native.Mathlib.Nat.{mul-le-mul}
 use borrow.Author.Tests.{not-true, not-false}
 use Rattle.testing.specs.Laws.Fragment.{placed-few}
-use Rattle.testing.specs.Laws.Test.{but-counts, but-stage, but-fragments, but-unused, but-scratch}
+use Rattle.testing.specs.Laws.Test.{but-counts, but-stage, but-fragments, but-unused, but-rest}
 use borrow.Author.Needs.{needs}
 use Rattle.testing.proofs.test.but_links.Statement.{statement}
 use Rattle.testing.proofs.test.but_links.Tie as tie
@@ -28,14 +28,11 @@ mul-zeros c = let p = c .before .before .before .before .before .before .before 
 returns-4 : tie.Need-returns-4
 returns-4 c = but-unused _ _ _ _ (c .before .before .before .before .before .before .before .before .before .count-placed .ensures) (sym (not-false _ (c .before .before .before .before .before .before .before .if1 .left)) ∙ c .before .before .before .before .before .before .before .before .counts-hold .ensures) (sym (not-false _ (c .before .before .before .before .before .if2 .left)) ∙ c .before .before .before .before .before .before .stage-holds .ensures) (sym (not-false _ (c .before .before .before .if3 .left)) ∙ c .before .before .before .before .fragments .ensures) (sym (not-true _ (c .if4 .taken)) ∙ c .before .zeros .ensures)
 
-mul-zeros-2 : tie.Need-mul-zeros-2
-mul-zeros-2 c = let p = c .before .before .before .before .before .before .before .before .before .before .before .before .pre in omega (arith, p .fragments)
-
-mul-zeros-3 : tie.Need-mul-zeros-3
-mul-zeros-3 c = let p = c .before .before .before .before .before .before .before .before .before .before .before .before .pre in omega (arith, p .fragments)
+rest-fits-requires : tie.Need-rest-fits-requires
+rest-fits-requires c κs = c .before .before .before .before .before .before .before .before .before .before .before .before .pre .fragments
 
 returns-5 : tie.Need-returns-5
-returns-5 c = but-scratch _ _ _ _ (c .before .before .before .before .before .before .before .before .before .before .count-placed .ensures) (sym (not-false _ (c .before .before .before .before .before .before .before .before .if1 .left)) ∙ c .before .before .before .before .before .before .before .before .before .counts-hold .ensures) (sym (not-false _ (c .before .before .before .before .before .before .if2 .left)) ∙ c .before .before .before .before .before .before .before .stage-holds .ensures) (sym (not-false _ (c .before .before .before .before .if3 .left)) ∙ c .before .before .before .before .before .fragments .ensures) (sym (not-false _ (c .before .if4 .left)) ∙ c .before .before .zeros .ensures) _ (c .zeros2 .ensures)
+returns-5 c = but-rest _ _ _ _ (c .before .before .before .before .before .before .before .before .before .before .count-placed .ensures) (sym (not-false _ (c .before .before .before .before .before .before .before .before .if1 .left)) ∙ c .before .before .before .before .before .before .before .before .before .counts-hold .ensures) (sym (not-false _ (c .before .before .before .before .before .before .if2 .left)) ∙ c .before .before .before .before .before .before .before .stage-holds .ensures) (sym (not-false _ (c .before .before .before .before .if3 .left)) ∙ c .before .before .before .before .before .fragments .ensures) (sym (not-false _ (c .before .if4 .left)) ∙ c .before .before .zeros .ensures) _ (c .rest-fits .ensures)
 
 pub but-links-spec : {M : Type 1} → statement M
-but-links-spec = tie.close (tie.spec (λ c κs. search needs) counts-hold-requires returns (λ c κs. search needs) returns-2 (λ c κs. search needs) returns-3 mul-zeros (λ c κs. search needs) returns-4 mul-zeros-2 mul-zeros-3 (λ c κs. search needs) returns-5)
+but-links-spec = tie.close (tie.spec (λ c κs. search needs) counts-hold-requires returns (λ c κs. search needs) returns-2 (λ c κs. search needs) returns-3 mul-zeros (λ c κs. search needs) returns-4 rest-fits-requires returns-5)
