@@ -1,0 +1,3 @@
+// The numbers of a forest, made in a few passes: the turn of each fragment in depth-first order, where those below it end, and whose each turn is.
+mod order;
+mod sections;
