@@ -4,3 +4,5 @@ pub mod Assumed
 pub mod Only
 pub mod Onto
 pub mod Order
+pub mod Sum
+pub mod Sizes
