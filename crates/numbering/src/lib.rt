@@ -1,3 +1,4 @@
 // The numbers of a forest, made in a few passes: the turn of each fragment in depth-first order, where those below it end, and whose each turn is.
 mod order;
 mod sections;
+mod sizes;

@@ -161,6 +161,10 @@ growing-all {n} {i} {f} {g} r z k =
     let L = levels (r .ready .whole) in
     record { only = k .only; each = λ v h. omega (arith, k .each v h, late-all n t v L i (omega arith), below-children n t L v h) }
 
+-- A parent is a fragment.
+pub parent-in : {n : ℕ} {f : List ℕ} → Whole n f → (v p : ℕ) → v < n → p ≡ par (forestIn n f) v → p < n
+parent-in w v p h e = rw e (par-in (levels w) v h)
+
 -- What is written.
 module _ (n v : ℕ) (f : List ℕ) (p : ℕ) (e : p ≡ par (forestIn n f) v) where
   pub grown-root : p ≡ v → f ≡ grownAt n v f
