@@ -6,3 +6,6 @@ pub mod Onto
 pub mod Order
 pub mod Sum
 pub mod Sizes
+pub mod Passed
+pub mod Turns
+pub mod Ends

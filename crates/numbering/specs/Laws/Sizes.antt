@@ -6,11 +6,11 @@ use mathlib.Core.List.{List}
 use mathlib.Core.Logic.{_≢_}
 use native.Mathlib.Omega.{arith}
 use native.Mathlib.Decide.{ℕ-discrete}
-use lib.ListN.{length, getD, set}
+use lib.ListN.{getD, set}
 use lib.Seq.{getD-set-same, getD-set-other}
 use lib.Dec.{T, leb, eqb, leb→le, le→leb, eqb→eq, not-T, T-not}
 use Rattle.base.specs.Pick.{tests}
-use Rattle.base.specs.Truth.{T-dec, and-intro, and-l, and-r, eq→eqb}
+use Rattle.base.specs.Truth.{and-intro, and-l, and-r, eq→eqb}
 use Rattle.rules.specs.Search.{sum}
 use Rattle.rules.specs.Tables.{Tables, par, lev}
 use Rattle.rules.specs.Forest.{Levels}
@@ -21,7 +21,7 @@ use Rattle.rules.specs.Laws.Up.{par-in}
 use Rattle.state.specs.Layout.{forestIn}
 use Rattle.testing.specs.Whole.{Whole}
 use Rattle.testing.specs.Laws.Whole.{levels}
-use Rattle.numbering.specs.Order.{Only, spotOf, Ordered}
+use Rattle.numbering.specs.Order.{Only, spotOf}
 use Rattle.numbering.specs.Passes.{Ready, Small, grownAt, late, Growable, Growing, Sizes}
 use Rattle.numbering.specs.Laws.Assumed.{below-children}
 use Rattle.numbering.specs.Laws.Only.{only-refl, only-more, only-forest, only-whole}

@@ -7,7 +7,7 @@ use mathlib.Core.Logic.{_≢_}
 use native.Mathlib.Omega.{arith}
 use native.Mathlib.Decide.{ℕ-discrete}
 use lib.Dec.{T}
-use Rattle.base.specs.Pick.{pick, pick-true, pick-false}
+use Rattle.base.specs.Pick.{pick-true, pick-false}
 use Rattle.base.specs.Truth.{T-dec, T-true, T-false}
 use Rattle.rules.specs.Search.{sum}
 use Rattle.rules.specs.Tables.{Tables}
