@@ -9,3 +9,4 @@ pub mod Sizes
 pub mod Passed
 pub mod Turns
 pub mod Ends
+pub mod Numbered
