@@ -26,8 +26,5 @@ module _ (n : ℕ) (t : Tables) (L : Levels n (par t) (lev t)) where
   pub turn-one : (u v : ℕ) → u < n → v < n → turn n t u ≡ turn n t v → u ≡ v
   turn-one u v hu hv e = ?
 
-  pub at-turn : (v : ℕ) → v < n → atTurn n t (turn n t v) ≡ v
-  at-turn v h = ?
-
   pub turn-at : (i : ℕ) → i < n → (atTurn n t i < n) × (turn n t (atTurn n t i) ≡ i)
   turn-at i h = ?

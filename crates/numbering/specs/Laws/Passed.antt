@@ -29,11 +29,11 @@ use Rattle.numbering.specs.Laws.Sizes.{below-most, child-par, child-apar
 
 -- Those beside v have its seat.
 module _ (n : ℕ) (t : Tables) where
-  pub seat-root : (v : ℕ) → par t v ≡ v → seatOf n t v ≡ 6 * n
+  seat-root : (v : ℕ) → par t v ≡ v → seatOf n t v ≡ 6 * n
   unfolding seatOf
   seat-root v e = simp tests
 
-  pub seat-child : (v : ℕ) → par t v ≢ v → seatOf n t v ≡ 5 * n + par t v
+  seat-child : (v : ℕ) → par t v ≢ v → seatOf n t v ≡ 5 * n + par t v
   unfolding seatOf
   seat-child v d = simp tests
 
@@ -84,17 +84,11 @@ module _ (n : ℕ) (t : Tables) where
     passed-seat v h = sum-same (belowIf n t (beside t v)) (belowIf n t (sits n t (seatOf n t v))) v
         (λ c l. if-same n t (beside t v) (sits n t (seatOf n t v)) c (beside-sits v c h (omega arith)) (sits-beside v c h (omega arith)))
 
-    pub seat-from : (v : ℕ) → v < n → 5 * n ≤ seatOf n t v
-    seat-from v h = elim (ℕ-discrete (par t v) v) [ yes z ↦ omega (arith, seat-root v z) | no d ↦ omega (arith, seat-child v d) ]
-
-    pub seat-under : (v : ℕ) → v < n → seatOf n t v < 7 * n
-    seat-under v h = elim (ℕ-discrete (par t v) v) [ yes z ↦ omega (arith, seat-root v z) | no d ↦ omega (arith, seat-child v d, par-in L v h) ]
-
   if-most : (s c : ℕ) → belowIf n t (sits n t s) c ≤ n
   if-most s c = elim (T-dec (sits n t s c)) [ yes h ↦ omega (arith, if-yes n t (sits n t s) c h, below-most n t c) | no h ↦ omega (arith, if-no n t (sits n t s) c h) ]
 
 -- The seat, as it is worked out.
-module _ {n : ℕ} {f : List ℕ} (w : Whole n f) (v p : ℕ) (h : v < n) (e : p ≡ par (forestIn n f) v) where
+module _ (n : ℕ) (f : List ℕ) (v p : ℕ) (h : v < n) (e : p ≡ par (forestIn n f) v) where
   -- r is v's seat.
   abbrev Seat : ℕ → Type 0
   Seat r = (r ≡ seatOf n (forestIn n f) v) × (5 * n ≤ r) × (r < 7 * n)

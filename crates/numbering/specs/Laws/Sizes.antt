@@ -80,7 +80,7 @@ module _ (n : ℕ) (t : Tables) (v : ℕ) where
       (λ k. late-is (j + 1) i (omega (arith, late-from j i k, spot-apart t n i c l h d)) (late-child j i k))
       (λ k. late-is j i (omega (arith, late-from (j + 1) i k)) (late-child (j + 1) i k)))
 
--- The order stays where only later sections change.
+-- An order stays one where its words and the forest do.
 pub ready-by : (n : ℕ) {a b : ℕ} {f g : List ℕ} → 4 * n ≤ a → Only a b f g → ((j : ℕ) → j < n → getD g (7 * n + j) 0 ≡ getD f (7 * n + j) 0) → Ready n f → Ready n g
 ready-by n {f = f} h k e r =
     let same = only-forest n h k in
