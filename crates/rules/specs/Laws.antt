@@ -27,6 +27,11 @@ pub mod Passes
 pub mod Met
 pub mod Removal
 pub mod Reading
+pub mod Sums
+pub mod Below
+pub mod Numbers
+pub mod Fits
+pub mod NumberedFits
 pub mod Without
 pub mod Reports
 pub mod Adopting

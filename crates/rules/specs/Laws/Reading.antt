@@ -19,7 +19,7 @@ use Rattle.rules.specs.Search.{least}
 use Rattle.rules.specs.Facts.{Standing, Unnoted, NotesOf}
 use Rattle.rules.specs.Laws.Search.{least-default, least-le, least-hit}
 use Rattle.rules.specs.Tables.{Tables, noteOf, markOf, par, lev, putNote, putMark, putCrossed, cleared}
-use Rattle.rules.specs.Reading.{above, hear, readLink, readLinks, lowest}
+use Rattle.rules.specs.Reading.{above, hear, readLink, readLinks, lowest, childOf}
 use Rattle.rules.specs.Laws.Links.{between-elim, between-here, between-turn, linked-nil, linked-cases, linked-head, linked-tail}
 use Rattle.rules.specs.Laws.Up.{above-over}
 use Rattle.rules.specs.Laws.Tables.{cleared-forest, cleared-unnoted, unnoted-note, unnoted-mark, standing-same, standing-cleared, standing-levels, SameForest, forest-refl, forest-trans, same-par, same-lev, same-noteOf, same-markOf, putNote-forest, putMark-forest, putCrossed-forest, noteOf-putNote-same, noteOf-putNote-other, putNote-length, putNote-mark, putNote-held, putNote-crossed, markOf-putMark-same, markOf-putMark-other, putMark-length, putMark-note, putMark-held, putMark-crossed, putCrossed-note, putCrossed-mark, putCrossed-held, putCrossed-crossed}
@@ -169,6 +169,15 @@ module _ {n : ℕ} (v w : ℕ) (s : Tables) (hn : length (s .note) ≡ n) (hm : 
 pub above-test : (t : Tables) (a b : ℕ) → T (above t a b) ↔ Over (par t) (lev t) a b
 unfolding above
 above-test t a b = (eqb→eq (up (par t) (lev t b - lev t a) b) a, eq→eqb (up (par t) (lev t b - lev t a) b) a)
+
+pub child-facts : (t : Tables) (v c : ℕ) → T (childOf t v c) ↔ ((par t c ≡ v) × (c ≢ v))
+unfolding childOf
+child-facts t v c =
+    let a = eqb (par t c) v in
+    let b = eqb c v in (
+      (λ q. (eqb→eq (par t c) v (and-l a (not b) q), (λ e. T-not b (and-r a (not b) q) (eq→eqb c v e)))),
+      (λ (e, d). and-intro a (not b) (eq→eqb (par t c) v e) (not-T b (λ q. d (eqb→eq c v q)))),
+    )
 
 -- The pass is marked false by a link of R where neither end is above the other, and by nothing else.
 pub record Crosses (R : ℕ → ℕ → Type 0) (s t : Tables) : Type 0 where

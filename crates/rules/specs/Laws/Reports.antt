@@ -27,7 +27,7 @@ use Rattle.rules.specs.Laws.Up.{above-over, over-refl, over-lev, par-in,
 use Rattle.rules.specs.Laws.Tables.{same-par, standing-levels}
 use Rattle.rules.specs.Laws.Removal.{Spanned, Reaches, Other, stay, lone, root-whole, root-parts, inner-whole, inner-parts, joined-root, root-joined}
 use Rattle.rules.specs.Laws.Without.{chain-link, chain-fragment, sole-turn, set-sole, set-cut, set-piece}
-use Rattle.rules.specs.Laws.Reading.{above-test, read-forest, cleared-notes}
+use Rattle.rules.specs.Laws.Reading.{above-test, child-facts, read-forest, cleared-notes}
 
 -- The tests of the reading rules, as facts.
 seen-cases : (t : Tables) (v : ℕ) → T (seen t v) → (par t v ≡ v) ⊎ (0 < markOf t v)
@@ -50,15 +50,6 @@ accepted-facts n t = (
   (λ q. (T-not (t .crossed) (and-l (not (t .crossed)) (every (seen t) n) q), (λ v h. seen-cases t v (every-at (seen t) n (and-r (not (t .crossed)) (every (seen t) n) q) v h)))),
   (λ (f, c). and-intro (not (t .crossed)) (every (seen t) n) (not-T (t .crossed) f) (every-intro (seen t) n (λ v h. cases-seen t v (c v h)))),
 )
-
-child-facts : (t : Tables) (v c : ℕ) → T (childOf t v c) ↔ ((par t c ≡ v) × (c ≢ v))
-unfolding childOf
-child-facts t v c =
-    let a = eqb (par t c) v in
-    let b = eqb c v in (
-      (λ q. (eqb→eq (par t c) v (and-l a (not b) q), (λ e. T-not b (and-r a (not b) q) (eq→eqb c v e)))),
-      (λ (e, d). and-intro a (not b) (eq→eqb (par t c) v e) (not-T b (λ q. d (eqb→eq c v q)))),
-    )
 
 -- A depth-first forest with its levels.
 depth-spanned : {n : ℕ} {p l : ℕ → ℕ} {E : Links} → Levels n p l → Undirected E → Among n E → DepthFirst n p E → Spanned n p l E
