@@ -1,8 +1,6 @@
 -- Laws about the definitions, and the lemmas that the proofs of the code rest on.
 -- Assumes nothing.
-pub mod Assumed
 pub mod Only
-pub mod Onto
 pub mod Order
 pub mod Sum
 pub mod Sizes

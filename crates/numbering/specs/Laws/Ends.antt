@@ -10,11 +10,11 @@ use lib.ListN.{length, getD, set}
 use lib.Seq.{getD-set-same, getD-set-other}
 use Rattle.rules.specs.Tables.{Tables}
 use Rattle.rules.specs.Numbers.{below, turn, end, atTurn}
+use Rattle.rules.specs.Laws.Numbers.{turn-in, turn-one, turn-at}
 use Rattle.state.specs.Layout.{forestIn}
 use Rattle.testing.specs.Whole.{Whole}
 use Rattle.testing.specs.Laws.Whole.{levels}
 use Rattle.numbering.specs.Passes.{Turned, Ends}
-use Rattle.numbering.specs.Laws.Assumed.{turn-in, turn-one, turn-at}
 use Rattle.numbering.specs.Laws.Only.{only-refl, only-more}
 use Rattle.numbering.specs.Laws.Sizes.{below-most}
 

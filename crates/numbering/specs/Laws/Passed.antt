@@ -9,7 +9,7 @@ use native.Mathlib.Numerals.{add-one}
 use native.Mathlib.Decide.{ℕ-discrete}
 use lib.ListN.{length, getD, set}
 use lib.Seq.{getD-set-same, getD-set-other}
-use lib.Dec.{T, eqb, eqb→eq}
+use lib.Dec.{T, eqb→eq}
 use Rattle.base.specs.Pick.{tests}
 use Rattle.base.specs.Truth.{T-dec, eq→eqb}
 use Rattle.rules.specs.Forest.{Levels}
@@ -18,14 +18,17 @@ use Rattle.rules.specs.Tables.{Tables, par, lev}
 use Rattle.rules.specs.Reading.{childOf}
 use Rattle.rules.specs.Numbers.{below, belowIf, beside, passed}
 use Rattle.rules.specs.Laws.Tally.{sum-most}
+use Rattle.rules.specs.Laws.Sums.{sum-zero, sum-suc, sum-same}
+use Rattle.rules.specs.Laws.Below.{beside-root, beside-child, below-if-yes, below-if-no}
+use Rattle.rules.specs.Laws.Reading.{child-facts}
 use Rattle.rules.specs.Laws.Up.{par-in}
 use Rattle.state.specs.Layout.{forestIn}
 use Rattle.testing.specs.Whole.{Whole}
 use Rattle.testing.specs.Laws.Whole.{levels}
 use Rattle.numbering.specs.Passes.{seatOf, sits, Sized, Passing}
 use Rattle.numbering.specs.Laws.Only.{only-refl, only-more, only-forest, only-whole}
-use Rattle.numbering.specs.Laws.Sum.{sum-zero, sum-suc, sum-same, if-yes, if-no, if-same}
-use Rattle.numbering.specs.Laws.Sizes.{below-most, child-par, child-apart, child-is}
+use Rattle.numbering.specs.Laws.Sum.{if-same}
+use Rattle.numbering.specs.Laws.Sizes.{below-most}
 
 -- Those beside v have its seat.
 module _ (n : ℕ) (t : Tables) where
@@ -45,37 +48,29 @@ module _ (n : ℕ) (t : Tables) where
   unfolding sits
   at-sits s v e = eq→eqb (seatOf n t v) s e
 
-  beside-root : (v c : ℕ) → par t v ≡ v → beside t v c ≡ eqb (par t c) c
-  unfolding beside
-  beside-root v c e = simp tests
-
-  beside-child : (v c : ℕ) → par t v ≢ v → beside t v c ≡ childOf t (par t v) c
-  unfolding beside
-  beside-child v c d = simp tests
-
   module _ (L : Levels n (par t) (lev t)) where
     beside-sits : (v c : ℕ) → v < n → c < n → T (beside t v c) → T (sits n t (seatOf n t v) c)
     beside-sits v c hv hc h = at-sits (seatOf n t v) c (elim (ℕ-discrete (par t v) v) [
-      | yes z ↦ seat-root c (eqb→eq (par t c) c (rw (beside-root v c z) at h)) ∙ sym (seat-root v z)
+      | yes z ↦ seat-root c (eqb→eq (par t c) c (rw (beside-root n t v z) at h)) ∙ sym (seat-root v z)
       | no d ↦
-          let k : T (childOf t (par t v) c) = rw (beside-child v c d) at h in
-          let e = child-par t (par t v) c k in
-          seat-child c (λ y. child-apart t (par t v) c k (sym y ∙ e)) ∙ ap (λ (x : ℕ). 5 * n + x) e ∙ sym (seat-child v d)
+          let k : T (childOf t (par t v) c) = rw (beside-child n t v d) at h in
+          let (e, y) = child-facts t (par t v) c .0 k in
+          seat-child c (λ z. y (sym z ∙ e)) ∙ ap (λ (x : ℕ). 5 * n + x) e ∙ sym (seat-child v d)
     ])
 
     sits-beside : (v c : ℕ) → v < n → c < n → T (sits n t (seatOf n t v) c) → T (beside t v c)
     sits-beside v c hv hc h =
         let e = sits-at (seatOf n t v) c h in
         elim (ℕ-discrete (par t v) v) [
-          | yes z ↦ rw (beside-root v c z) (elim (ℕ-discrete (par t c) c) [
+          | yes z ↦ rw (beside-root n t v z) (elim (ℕ-discrete (par t c) c) [
             | yes y ↦ eq→eqb (par t c) c y
             | no y ↦ absurd (omega (arith, e, seat-root v z, seat-child c y, par-in L c hc))
           ])
-          | no d ↦ rw (beside-child v c d) (elim (ℕ-discrete (par t c) c) [
+          | no d ↦ rw (beside-child n t v d) (elim (ℕ-discrete (par t c) c) [
             | yes y ↦ absurd (omega (arith, e, seat-root c y, seat-child v d, par-in L v hv))
             | no y ↦
                 let q : par t c ≡ par t v = omega (arith, e, seat-child c y, seat-child v d) in
-                child-is t (par t v) c q (λ x. y (q ∙ sym x))
+                child-facts t (par t v) c .1 (q, (λ x. y (q ∙ sym x)))
           ])
         ]
 
@@ -85,7 +80,7 @@ module _ (n : ℕ) (t : Tables) where
         (λ c l. if-same n t (beside t v) (sits n t (seatOf n t v)) c (beside-sits v c h (omega arith)) (sits-beside v c h (omega arith)))
 
   if-most : (s c : ℕ) → belowIf n t (sits n t s) c ≤ n
-  if-most s c = elim (T-dec (sits n t s c)) [ yes h ↦ omega (arith, if-yes n t (sits n t s) c h, below-most n t c) | no h ↦ omega (arith, if-no n t (sits n t s) c h) ]
+  if-most s c = elim (T-dec (sits n t s c)) [ yes h ↦ omega (arith, below-if-yes n t (sits n t s) c h, below-most n t c) | no h ↦ omega (arith, below-if-no n t (sits n t s) c h) ]
 
 -- The seat, as it is worked out.
 module _ (n : ℕ) (f : List ℕ) (v p : ℕ) (h : v < n) (e : p ≡ par (forestIn n f) v) where
@@ -142,9 +137,9 @@ module _ {n k : ℕ} {f g : List ℕ} (z : Sized n f) (p : Passing n k f g) wher
             ]);
             seats = λ r c d. rw (add-one k) (elim (ℕ-discrete r s) [
               | yes q ↦ rw q (getD-set-same (set g (4 * n + k) x) s y 0 (omega (arith, one .long, p .only .long))
-                  ∙ omega (arith, ey, ex, p .seats s a b, size-is, sum-suc (belowIf n t (sits n t s)) k, if-yes n t (sits n t s) k (at-sits n t s k (sym seat-own))))
+                  ∙ omega (arith, ey, ex, p .seats s a b, size-is, sum-suc (belowIf n t (sits n t s)) k, below-if-yes n t (sits n t s) k (at-sits n t s k (sym seat-own))))
               | no q ↦ first r q ∙ getD-set-other g (4 * n + k) r x 0 (omega arith)
-                  ∙ omega (arith, p .seats r c d, sum-suc (belowIf n t (sits n t r)) k, if-no n t (sits n t r) k (λ j. q (sym (sits-at n t r k j) ∙ sym seat-own)))
+                  ∙ omega (arith, p .seats r c d, sum-suc (belowIf n t (sits n t r)) k, below-if-no n t (sits n t r) k (λ j. q (sym (sits-at n t r k j) ∙ sym seat-own)))
             ]);
           }
 

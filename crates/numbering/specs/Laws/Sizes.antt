@@ -8,43 +8,32 @@ use native.Mathlib.Omega.{arith}
 use native.Mathlib.Decide.{ℕ-discrete}
 use lib.ListN.{getD, set}
 use lib.Seq.{getD-set-same, getD-set-other}
-use lib.Dec.{T, leb, eqb, leb→le, le→leb, eqb→eq, not-T, T-not}
+use lib.Dec.{T, leb, leb→le, le→leb}
 use Rattle.base.specs.Pick.{tests}
-use Rattle.base.specs.Truth.{and-intro, and-l, and-r, eq→eqb}
+use Rattle.base.specs.Truth.{and-intro, and-l, and-r}
 use Rattle.rules.specs.Search.{sum}
 use Rattle.rules.specs.Tables.{Tables, par, lev}
 use Rattle.rules.specs.Forest.{Levels}
 use Rattle.rules.specs.Reading.{above, childOf}
 use Rattle.rules.specs.Numbers.{below, belowIf}
 use Rattle.rules.specs.Laws.Search.{count-le}
+use Rattle.rules.specs.Laws.Tally.{sum-most}
+use Rattle.rules.specs.Laws.Sums.{sum-same}
+use Rattle.rules.specs.Laws.Below.{below-children, below-if-yes, below-if-no}
+use Rattle.rules.specs.Laws.Reading.{child-facts}
 use Rattle.rules.specs.Laws.Up.{par-in}
 use Rattle.state.specs.Layout.{forestIn}
 use Rattle.testing.specs.Whole.{Whole}
 use Rattle.testing.specs.Laws.Whole.{levels}
 use Rattle.numbering.specs.Order.{Only, spotOf}
 use Rattle.numbering.specs.Passes.{Ready, Small, grownAt, late, Growable, Growing, Sizes}
-use Rattle.numbering.specs.Laws.Assumed.{below-children}
 use Rattle.numbering.specs.Laws.Only.{only-refl, only-more, only-forest, only-whole}
 use Rattle.numbering.specs.Laws.Order.{spot-in, spot-apart, spot-parent, ordered-some, ordered-back}
-use Rattle.numbering.specs.Laws.Sum.{sum-same, sum-le, sum-none, sum-more, if-yes, if-no, if-same, if-le}
+use Rattle.numbering.specs.Laws.Sum.{sum-le, sum-more, if-same, if-le}
 
 pub below-most : (n : ℕ) (t : Tables) (v : ℕ) → below n t v ≤ n
 unfolding below
 below-most n t v = count-le (above t v) n
-
--- Children, as a test.
-module _ (t : Tables) (v c : ℕ) where
-  pub child-par : T (childOf t v c) → par t c ≡ v
-  unfolding childOf
-  child-par h = eqb→eq (par t c) v (and-l (eqb (par t c) v) _ h)
-
-  pub child-apart : T (childOf t v c) → c ≢ v
-  unfolding childOf
-  child-apart h e = T-not (eqb c v) (and-r (eqb (par t c) v) _ h) (eq→eqb c v e)
-
-  pub child-is : par t c ≡ v → c ≢ v → T (childOf t v c)
-  unfolding childOf
-  child-is e d = and-intro (eqb (par t c) v) _ (eq→eqb (par t c) v e) (not-T (eqb c v) (λ h. d (eqb→eq c v h)))
 
 module _ (n : ℕ) (t : Tables) (v : ℕ) where
   late-from : (i c : ℕ) → T (late n t i v c) → i ≤ spotOf n t c
@@ -61,7 +50,7 @@ module _ (n : ℕ) (t : Tables) (v : ℕ) where
 
   -- None is late behind the last spot.
   late-none : sum (belowIf n t (late n t n v)) n ≡ 0
-  late-none = sum-none (belowIf n t (late n t n v)) n (λ c h. if-no n t (late n t n v) c (λ k. omega (arith, late-from n c k, spot-in t n c h)))
+  late-none = omega (arith, sum-most (belowIf n t (late n t n v)) 0 n (λ c h. omega (arith, below-if-no n t (late n t n v) c (λ k. omega (arith, late-from n c k, spot-in t n c h)))))
 
   late-le : (i : ℕ) → sum (belowIf n t (late n t i v)) n ≤ sum (belowIf n t (childOf t v)) n
   late-le i = sum-le (belowIf n t (late n t i v)) (belowIf n t (childOf t v)) n (λ c h. if-le n t (late n t i v) (childOf t v) c (late-child i c))
@@ -69,13 +58,13 @@ module _ (n : ℕ) (t : Tables) (v : ℕ) where
   -- All children are late behind v's own spot.
   late-all : Levels n (par t) (lev t) → (i : ℕ) → i ≤ suc (spotOf n t v) → sum (belowIf n t (late n t i v)) n ≡ sum (belowIf n t (childOf t v)) n
   late-all L i l = sum-same (belowIf n t (late n t i v)) (belowIf n t (childOf t v)) n (λ c h. if-same n t (late n t i v) (childOf t v) c (late-child i c) (λ k.
-      let e = child-par t v c k in
-      late-is i c (omega (arith, spot-parent n t L c h (λ z. child-apart t v c k (sym z ∙ e)), ap (spotOf n t) e)) k))
+      let (e, d) = child-facts t v c .0 k in
+      late-is i c (omega (arith, spot-parent n t L c h (λ z. d (sym z ∙ e)), ap (spotOf n t) e)) k))
 
   -- One spot more, which is c's.
   late-more : (j c : ℕ) → c < n → spotOf n t c ≡ j → sum (belowIf n t (late n t j v)) n ≡ sum (belowIf n t (late n t (j + 1) v)) n + belowIf n t (childOf t v) c
   late-more j c h e = sum-more (belowIf n t (late n t (j + 1) v)) (belowIf n t (late n t j v)) n c (belowIf n t (childOf t v) c) h
-      (omega (arith, if-no n t (late n t (j + 1) v) c (λ k. omega (arith, late-from (j + 1) c k)), if-same n t (late n t j v) (childOf t v) c (late-child j c) (late-is j c (omega arith))))
+      (omega (arith, below-if-no n t (late n t (j + 1) v) c (λ k. omega (arith, late-from (j + 1) c k)), if-same n t (late n t j v) (childOf t v) c (late-child j c) (late-is j c (omega arith))))
       (λ i l d. if-same n t (late n t j v) (late n t (j + 1) v) i
       (λ k. late-is (j + 1) i (omega (arith, late-from j i k, spot-apart t n i c l h d)) (late-child j i k))
       (λ k. late-is j i (omega (arith, late-from (j + 1) i k)) (late-child (j + 1) i k)))
@@ -123,7 +112,7 @@ module _ {n j : ℕ} {f g : List ℕ} (r : Growable n f) (k : Growing n (j + 1) 
     growing-root : par (forestIn n f) v ≡ v → Growing n j f g
     growing-root z = let t = forestIn n f in record {
       only = k .only;
-      each = λ u l. omega (arith, k .each u l, late-more n t u j v small here, if-no n t (childOf t u) v (λ c. child-apart t u v c (sym z ∙ child-par t u v c)));
+      each = λ u l. omega (arith, k .each u l, late-more n t u j v small here, below-if-no n t (childOf t u) v (λ c. let (e, d) = child-facts t u v .0 c in d (sym z ∙ e)));
     }
 
     growing-child : (p : ℕ) → p ≡ par (forestIn n f) v → p < n → par (forestIn n f) v ≢ v → Growing n j f (set g (9 * n + p) (getD g (9 * n + p) 0 + getD g (9 * n + v) 0 + 1))
@@ -136,9 +125,9 @@ module _ {n j : ℕ} {f g : List ℕ} (r : Growable n f) (k : Growing n (j + 1) 
           only = only-more (k .only) (9 * n + p) x (omega arith) (omega arith);
           each = λ u l. elim (ℕ-discrete u p) [
             | yes z ↦ rw z (getD-set-same g (9 * n + p) x 0 (omega (arith, r .ready .whole .long, k .only .long))
-                ∙ omega (arith, own, k .each p hp, late-more n t p j v small here, if-yes n t (childOf t p) v (child-is t p v (sym ep) (λ y. d (sym ep ∙ sym y)))))
+                ∙ omega (arith, own, k .each p hp, late-more n t p j v small here, below-if-yes n t (childOf t p) v (child-facts t p v .1 (sym ep, (λ y. d (sym ep ∙ sym y))))))
             | no q ↦ getD-set-other g (9 * n + p) (9 * n + u) x 0 (omega arith)
-                ∙ omega (arith, k .each u l, late-more n t u j v small here, if-no n t (childOf t u) v (λ c. q (sym (child-par t u v c) ∙ sym ep)))
+                ∙ omega (arith, k .each u l, late-more n t u j v small here, below-if-no n t (childOf t u) v (λ c. q (sym (child-facts t u v .0 c .0) ∙ sym ep)))
           ];
         }
 

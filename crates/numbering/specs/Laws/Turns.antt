@@ -12,12 +12,12 @@ use Rattle.base.specs.Pick.{tests}
 use Rattle.rules.specs.Tables.{par}
 use Rattle.rules.specs.Numbers.{passed, turn}
 use Rattle.rules.specs.Laws.Up.{par-in}
+use Rattle.rules.specs.Laws.Numbers.{turn-root, turn-child, turn-in}
 use Rattle.state.specs.Layout.{forestIn}
 use Rattle.testing.specs.Whole.{Whole}
 use Rattle.testing.specs.Laws.Whole.{levels}
 use Rattle.numbering.specs.Order.{Only, spotOf}
 use Rattle.numbering.specs.Passes.{Small, turnedAt, Turnable, Turning, Turns}
-use Rattle.numbering.specs.Laws.Assumed.{turn-root, turn-child, turn-in}
 use Rattle.numbering.specs.Laws.Only.{only-refl, only-more, only-forest, only-whole}
 use Rattle.numbering.specs.Laws.Order.{spot-in, spot-apart, spot-parent, ordered-some, ordered-back}
 

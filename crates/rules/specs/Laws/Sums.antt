@@ -28,7 +28,7 @@ sum-step f (suc d) c h = elim (ℕ-discrete d c) [
   | no k ↦ omega (arith, sum-suc f d, sum-step f d c (omega arith))
 ]
 
-sum-same : (f g : ℕ → ℕ) (m : ℕ) → ((c : ℕ) → c < m → f c ≡ g c) → sum f m ≡ sum g m
+pub sum-same : (f g : ℕ → ℕ) (m : ℕ) → ((c : ℕ) → c < m → f c ≡ g c) → sum f m ≡ sum g m
 sum-same f g zero h = sum-zero f ∙ sym (sum-zero g)
 sum-same f g (suc m) h = omega (arith, sum-suc f m, sum-suc g m, h m (omega arith), sum-same f g m (λ c l. h c (omega arith)))
 
