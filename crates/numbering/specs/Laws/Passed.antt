@@ -48,16 +48,16 @@ module _ (n : ℕ) (t : Tables) where
   unfolding sits
   at-sits s v e = eq→eqb (seatOf n t v) s e
 
-  module _ (L : Levels n (par t) (lev t)) where
-    beside-sits : (v c : ℕ) → v < n → c < n → T (beside t v c) → T (sits n t (seatOf n t v) c)
-    beside-sits v c hv hc h = at-sits (seatOf n t v) c (elim (ℕ-discrete (par t v) v) [
-      | yes z ↦ seat-root c (eqb→eq (par t c) c (rw (beside-root n t v z) at h)) ∙ sym (seat-root v z)
-      | no d ↦
-          let k : T (childOf t (par t v) c) = rw (beside-child n t v d) at h in
-          let (e, y) = child-facts t (par t v) c .0 k in
-          seat-child c (λ z. y (sym z ∙ e)) ∙ ap (λ (x : ℕ). 5 * n + x) e ∙ sym (seat-child v d)
-    ])
+  beside-sits : (v c : ℕ) → T (beside t v c) → T (sits n t (seatOf n t v) c)
+  beside-sits v c h = at-sits (seatOf n t v) c (elim (ℕ-discrete (par t v) v) [
+    | yes z ↦ seat-root c (eqb→eq (par t c) c (rw (beside-root n t v z) at h)) ∙ sym (seat-root v z)
+    | no d ↦
+        let k : T (childOf t (par t v) c) = rw (beside-child n t v d) at h in
+        let (e, y) = child-facts t (par t v) c .0 k in
+        seat-child c (λ z. y (sym z ∙ e)) ∙ ap (λ (x : ℕ). 5 * n + x) e ∙ sym (seat-child v d)
+  ])
 
+  module _ (L : Levels n (par t) (lev t)) where
     sits-beside : (v c : ℕ) → v < n → c < n → T (sits n t (seatOf n t v) c) → T (beside t v c)
     sits-beside v c hv hc h =
         let e = sits-at (seatOf n t v) c h in
@@ -77,7 +77,7 @@ module _ (n : ℕ) (t : Tables) where
     passed-seat : (v : ℕ) → v < n → passed n t v ≡ sum (belowIf n t (sits n t (seatOf n t v))) v
     unfolding passed
     passed-seat v h = sum-same (belowIf n t (beside t v)) (belowIf n t (sits n t (seatOf n t v))) v
-        (λ c l. if-same n t (beside t v) (sits n t (seatOf n t v)) c (beside-sits v c h (omega arith)) (sits-beside v c h (omega arith)))
+        (λ c l. if-same n t (beside t v) (sits n t (seatOf n t v)) c (beside-sits v c) (sits-beside v c h (omega arith)))
 
   if-most : (s c : ℕ) → belowIf n t (sits n t s) c ≤ n
   if-most s c = elim (T-dec (sits n t s c)) [ yes h ↦ omega (arith, below-if-yes n t (sits n t s) c h, below-most n t c) | no h ↦ omega (arith, below-if-no n t (sits n t s) c h) ]
