@@ -8,16 +8,21 @@ use native.Mathlib.Omega.{arith}
 use native.Mathlib.Decide.{decLt}
 use lib.ListN.{length, getD, take, drop, length-append, length-take, length-drop, List·getD-append, getD-replicate}
 use lib.Seq.{ext-getD, getD-take, getD-drop, getD-append-add}
+use lib.Dec.{T}
 use Rattle.base.specs.Pick.{tests}
+use Rattle.base.specs.Truth.{true-T, false-T}
 use Rattle.rules.specs.Search.{table}
 use Rattle.rules.specs.Tables.{Tables}
 use Rattle.rules.specs.Numbers.{below, passed, turn, end, atTurn}
 use Rattle.rules.specs.Laws.Search.{table-length, table-at}
-use Rattle.state.specs.Layout.{stored, wiped, forestIn}
-use Rattle.state.specs.Test.{isBuilt}
+use Rattle.state.specs.Layout.{stored, wiped, tablesIn, forestIn}
+use Rattle.state.specs.Test.{isBuilt, isNumbered}
 use Rattle.state.specs.Laws.Lists.{all-zeros}
+use Rattle.state.specs.Laws.Behind.{plain-zero}
 use Rattle.state.specs.Laws.Clear.{wiped-length, wiped-front, wiped-past, wiped-within}
 use Rattle.state.specs.declared.State.{State}
+use Rattle.state.specs.declared.Stage.{Stage}
+use Rattle.state.specs.declared.Stage.the-variants.{Building, Built, Reading, Read}
 use Rattle.testing.specs.Test.{headButLinks}
 use Rattle.testing.specs.Laws.Head.{Passed, head-known, head-passed}
 use Rattle.testing.specs.Laws.Whole.{passed-whole}
@@ -195,11 +200,17 @@ module _ {n : ℕ} {f g₁ : List ℕ} (o : Orderable n f) (a : Orders n f g₁)
               (λ i h. same-words l i)
 
 -- Where the forest has just been built, and its tables pass, what is not stored is 0.
+not-numbered : (g : Stage) → isBuilt g ≡ true → T (isNumbered g) → ⊥
+not-numbered Building e x = x
+not-numbered Built e x = x
+not-numbered Reading e x = absurd (false-T (isBuilt Reading) refl (true-T (isBuilt Reading) e))
+not-numbered Read e x = absurd (false-T (isBuilt Read) refl (true-T (isBuilt Read) e))
+
 scratch-blank : {s : State} {f h : List ℕ} → Passed s f h → isBuilt (s .stage) ≡ true → (i : ℕ) → 4 * s .n ≤ i → i < 10 * s .n → getD f i 0 ≡ 0
 scratch-blank {s} {f} {h} p g i a b =
     let n = s .n in
     let long = p .bounds .frag-long in
-    let z = all-zeros (take (12 * n) (drop (stored * n) f)) (12 * n) (simp (length-take, length-drop) (omega arith)) (p .found .scratch) in
+    let z = all-zeros (take (12 * n) (drop (stored * n) f)) (12 * n) (simp (length-take, length-drop) (omega arith)) (plain-zero (s .stage) n (tablesIn s f h) f (not-numbered (s .stage) g) (p .found .back)) in
     let e : i ≡ stored * n + (i - 4 * n) = omega arith in
     ap (λ (k : ℕ). getD f k 0) e ∙ sym (getD-drop (stored * n) f (i - 4 * n) 0) ∙ sym (getD-take (12 * n) (drop (stored * n) f) (i - 4 * n) 0 (omega arith))
     ∙ ap (λ (x : List ℕ). getD x (i - 4 * n) 0) z ∙ getD-replicate (12 * n) (i - 4 * n) 0 0 (omega arith)
