@@ -4,21 +4,21 @@ use Prim.Native.Nat.{ℕ, _+_, _-_, _*_, _≤_, _<_}
 use mathlib.Core.Path.{_≡_, refl, sym, ap, _∙_}
 use mathlib.Core.Bool.{Bool, true, false}
 use mathlib.Core.List.{List, _++_, append-assoc}
+use mathlib.Core.Logic.{inl, inr}
 use native.Mathlib.Omega.{arith}
 use lib.Dec.{T}
 use lib.ListN.{length, getD, take, drop, replicate, take-append-drop, length-append, length-take, length-drop, length-replicate}
 use lib.Seq.{drop-drop, drop-at, take-at, take-take, getD-take, getD-drop}
-use Rattle.base.specs.Pick.{pick-true}
-use Rattle.base.specs.Truth.{T-dec, T-true, T-false, false-T, true-T, or-l, or-r, or-cases}
+use Rattle.base.specs.Truth.{T-dec, T-true, T-false, false-T, true-T, or-r, or-cases}
 use Rattle.rules.specs.Tables.{Tables, clearNotes}
 use Rattle.rules.specs.Laws.Tables.{SameForest}
-use Rattle.state.specs.Layout.{words, stored, numbers, storedIn, movedOn, wiped, tablesIn, forestIn, numbersOf, behind, fragOf, heldOf}
-use Rattle.state.specs.Test.{isBuilding, isBuilt, isRead, isNumbered}
+use Rattle.state.specs.Layout.{words, stored, numbers, movedOn, wiped, tablesIn, forestIn, numbersOf, behind, fragOf, heldOf}
+use Rattle.state.specs.Test.{isBuilding, isBuilt, isReading, isNumbered}
 use Rattle.state.specs.Close.{opens}
 use Rattle.state.specs.Laws.Lists.{parts, zeros, all-none}
 use Rattle.state.specs.Laws.Layout.{tables-cleared}
 use Rattle.state.specs.Laws.Clear.{wiped-is, wiped-length, wiped-front, wiped-past, wiped-within}
-use Rattle.state.specs.Laws.Behind.{rest, behind-plain, behind-length, behind-same, numbered-zero}
+use Rattle.state.specs.Laws.Behind.{rest, behind-numbered, behind-plain, behind-length, behind-same, numbered-zero}
 use Rattle.state.specs.Laws.Lay.{frag-laid, held-laid}
 use Rattle.state.specs.declared.State.{State}
 use Rattle.state.specs.declared.Stage.{Stage}
@@ -92,8 +92,55 @@ module _ {s : State} {f h : List ℕ} (p : Passed s f h) where
   standing = take (4 * n) f ++ (behind Reading n t ++ drop (16 * n) f)
 
   pub opened-cleared : (g f′ : List ℕ) → g ≡ standing → f′ ≡ wiped (2 * n) (stored * n) g → Cleared n Reading t f f′
-  opened-cleared g f′ eg e = ?
+  opened-cleared g f′ eg e =
+      let B = behind Reading n t in
+      let low : length (take (4 * n) f) ≡ 4 * n = simp length-take (omega (arith, long-enough)) in
+      let long : length g ≡ length f = rw eg (simp (length-append, length-take, length-drop, behind-length) (omega (arith, long-enough))) in
+      let behind-low : drop (4 * n) g ≡ B ++ drop (16 * n) f = rw eg (drop-at (take (4 * n) f) (B ++ drop (16 * n) f) (4 * n) low) in
+      let same : drop (4 * n) f′ ≡ B ++ drop (16 * n) f = rw e (wiped-past (2 * n) (4 * n) g (omega arith) (omega (arith, long, long-enough))) ∙ behind-low in
+      let sixteen : 16 * n ≡ 4 * n + 12 * n = omega arith in
+      record {
+        long = rw e (wiped-length (2 * n) (4 * n) g (omega arith) (omega (arith, long, long-enough))) ∙ long;
+        front = rw e (wiped-front (2 * n) (4 * n) g (omega arith) (omega (arith, long, long-enough)))
+            ∙ sym (take-take (2 * n) (4 * n) g (omega arith)) ∙ ap (λ l. take (2 * n) l) (rw eg (take-at (take (4 * n) f) (B ++ drop (16 * n) f) (4 * n) low)) ∙ take-take (2 * n) (4 * n) f (omega arith);
+        none = λ i a b. rw e (wiped-within (2 * n) (4 * n) g (omega arith) (omega (arith, long, long-enough)) i a b);
+        back = ap (λ l. take (12 * n) l) same ∙ take-at B (drop (16 * n) f) (12 * n) (behind-length n t Reading);
+        past = ap (λ i. drop i f′) sixteen ∙ sym (drop-drop (12 * n) (4 * n) f′) ∙ ap (λ l. drop (12 * n) l) same ∙ drop-at B (drop (16 * n) f) (12 * n) (behind-length n t Reading);
+      }
+
+  parted : drop (4 * n) f ≡ rest n f ++ drop (16 * n) f
+  parted = parts (4 * n) (12 * n) (16 * n) f (omega arith)
+
+  was-read : T (isNumbered (s .stage)) → f ≡ standing
+  was-read x =
+      sym (take-append-drop (4 * n) f) ∙ ap (λ r. take (4 * n) f ++ r) (parted ∙ ap (λ r. r ++ drop (16 * n) f)
+      (p .found .back ∙ behind-numbered n t (s .stage) x ∙ sym (behind-numbered n t Reading tt)))
+
+  unused : isBuilt (s .stage) ≡ true → drop (7 * n) f ≡ replicate (9 * n) 0 ++ drop (16 * n) f
+  unused x =
+      let seven : 7 * n ≡ 4 * n + 3 * n = omega arith in
+      let zero : rest n f ≡ replicate (12 * n) 0 = p .found .back ∙ behind-plain n t (s .stage) (not-numbered (s .stage) x) in
+      ap (λ i. drop i f) seven ∙ sym (drop-drop (3 * n) (4 * n) f)
+      ∙ ap (λ l. drop (3 * n) l) (parted ∙ ap (λ r. r ++ drop (16 * n) f) zero ∙ zeros (3 * n) (9 * n) (12 * n) (drop (16 * n) f) (omega arith))
+      ∙ drop-at (replicate (3 * n) 0) _ (3 * n) (length-replicate (3 * n) 0)
+
+  just-built : isBuilt (s .stage) ≡ true → numbered n (forestIn n f) f ≡ standing
+  unfolding numbered numbersOf tablesIn
+  just-built x =
+      let same : SameForest t (forestIn n f) = record { same-parent = refl; same-level = refl } in
+      rw (unused x, behind-same same Reading n, behind-numbered n (forestIn n f) Reading tt, append-assoc, append-assoc, append-assoc)
+
+  later : T (opens (s .stage)) → (T (isBuilt (s .stage)) → ⊥) → T (isNumbered (s .stage))
+  later m x = elim (or-cases (isBuilt (s .stage)) _ m) [
+    | inl y ↦ absurd (x y)
+    | inr y ↦ or-r (isReading (s .stage)) _ y
+  ]
 
   -- It is numbered where it was just built; later its numbers stand there.
   pub open-numbered : (b : Bool) → b ≡ opens (s .stage) → (r : ℕ) → r ≡ headButLinks b s f h → r ≡ 0 → numberedIn b s f h ≡ standing
-  open-numbered b eb r e z = ?
+  open-numbered b eb r e z = elim (T-dec (isBuilt (s .stage))) [
+    | yes x ↦ sym (number-built b s f h r e z (isBuilt (s .stage)) refl (T-true (isBuilt (s .stage)) x) _ refl) ∙ just-built (T-true (isBuilt (s .stage)) x)
+    | no x ↦
+        let m : T (opens (s .stage)) = true-T (opens (s .stage)) (sym eb ∙ head-known b s f h (sym e ∙ z) .may) in
+        sym (number-later b s f h r e z (isBuilt (s .stage)) refl (T-false (isBuilt (s .stage)) x)) ∙ was-read (later m x)
+  ]

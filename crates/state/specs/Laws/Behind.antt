@@ -60,7 +60,7 @@ module _ (n : ℕ) (t : Tables) where
   numbers-length = simp (length-append, table-length) (omega arith)
 
   module _ (g : Stage) where
-    behind-numbered : T (isNumbered g) → behind g n t ≡ numbersOf n t ++ replicate (9 * n) 0
+    pub behind-numbered : T (isNumbered g) → behind g n t ≡ numbersOf n t ++ replicate (9 * n) 0
     unfolding behind storedIn
     behind-numbered b = rw (T-true (isNumbered g) b, pick-true, pick-true)
 
