@@ -50,13 +50,6 @@ kept-forest {n} {f} {g} k = record {
   same-level = section-same n f 1 g (2 * n) (omega arith) (k .front);
 }
 
-kept-section : {n : ℕ} {f g : List ℕ} → Kept n f g → (j : ℕ) → section n (stored + j) g ≡ section n (stored + j) f
-unfolding section
-kept-section {n} {f} {g} k j = ap (λ l. take n l) (past g ∙ ap (λ l. drop (j * n) l) (k .rest) ∙ sym (past f))
-  where
-    past : (l : List ℕ) → drop ((stored + j) * n) l ≡ drop (j * n) (drop (stored * n) l)
-    past l = let e : (stored + j) * n ≡ stored * n + j * n = omega arith in ap (λ i. drop i l) e ∙ sym (drop-drop (j * n) (stored * n) l)
-
 pub kept-whole : {n : ℕ} {f g : List ℕ} → Whole n f → Kept n f g → Whole n g
 unfolding tablesIn
 kept-whole {n} {f} {g} w k =
@@ -68,7 +61,14 @@ kept-whole {n} {f} {g} w k =
       all = λ v h. rw (same-placed e) (w .all v h);
     }
 
--- Nor do the words behind notes and marks change.
+-- So are the words behind notes and marks.
+kept-section : {n : ℕ} {f g : List ℕ} → Kept n f g → (j : ℕ) → section n (stored + j) g ≡ section n (stored + j) f
+unfolding section
+kept-section {n} {f} {g} k j = ap (λ l. take n l) (past g ∙ ap (λ l. drop (j * n) l) (k .rest) ∙ sym (past f))
+  where
+    past : (l : List ℕ) → drop ((stored + j) * n) l ≡ drop (j * n) (drop (stored * n) l)
+    past l = let e : (stored + j) * n ≡ stored * n + j * n = omega arith in ap (λ i. drop i l) e ∙ sym (drop-drop (j * n) (stored * n) l)
+
 pub kept-numbered : {n : ℕ} {f g : List ℕ} → Numbered n f → Kept n f g → Numbered n g
 kept-numbered {n} {f} {g} N k =
     let e = kept-forest k in
