@@ -16,7 +16,7 @@ pub record Ready (n : ℕ) (f : List ℕ) : Type 0 where
   pub whole : Whole n f
   pub ordered : Ordered n (forestIn n f) f
 
--- Its scratch is 0.
+-- One with an order whose scratch is 0.
 pub record Layable (n : ℕ) (f : List ℕ) : Type 0 where
   pub ready : Ready n f
   pub blank : Blank (7 * n) (words * n) f
