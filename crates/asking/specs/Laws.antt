@@ -1,5 +1,6 @@
 -- The lemmas that the proofs of the code rest on.
 -- Assumes nothing.
 pub mod Asked
-pub mod Count
-pub mod Cut
+pub mod Ranges
+pub mod Sole
+pub mod Tree

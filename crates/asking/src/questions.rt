@@ -3,9 +3,9 @@ ghost use mathlib.Core.Path.{_≡_};
 ghost use Rattle.base.specs.Answer.{gives, refuses};
 ghost use Rattle.state.specs.Ask.{pieceCall, soleCall, cutCall};
 ghost use Rattle.state.specs.Answers.{askedTold, judgedTold};
-use crate::count::is_sole;
-use crate::count::smallest;
 use crate::cutting::is_cut;
+use crate::ranges::is_sole;
+use crate::tree::smallest;
 use numbers::Refusal;
 use state::Asked;
 use state::Judged;
@@ -74,9 +74,8 @@ pub fn sole(s: State, frag: &[u32], held: &[u32], a: usize, b: usize) -> Judged
     judged(is_sole(frag, n, a, b))
 }
 
-// The fragment table is lent to work in; it is left as found.
-pub fn cut(s: State, frag: &mut [u32], held: &[u32], v: usize) -> Judged
-    ensures { λ r. ⌜ (judgedTold r ≡ cutCall s (now (frag .entry)) (now (held .entry)) v) × (now (frag .exit) ≡ now (frag .entry)) ⌝ }
+pub fn cut(s: State, frag: &[u32], held: &[u32], v: usize) -> Judged
+    ensures { λ r. ⌜ judgedTold r ≡ cutCall s (now (frag .entry)) (now (held .entry)) v ⌝ }
 {
     let stage = s.stage;
     let refusal = head(s, is_read(stage), frag, held);

@@ -1,32 +1,18 @@
 -- What the head of a question gives, and the answers of the questions.
 -- Assumes nothing.
-use Prim.Native.Nat.{ℕ, _*_, _≤_, _<_}
-use mathlib.Core.Path.{_≡_, refl, sym, ap, _∙_}
+use Prim.Native.Nat.{ℕ, _≤_, _<_}
+use mathlib.Core.Path.{_≡_, refl}
 use mathlib.Core.Bool.{Bool}
 use mathlib.Core.List.{List}
-use native.Mathlib.Omega.{arith}
-use lib.ListN.{getD, take, drop, getD-replicate, length-take, length-drop}
-use lib.Seq.{getD-take, getD-drop}
 use Rattle.base.specs.Pick.{tests}
 use Rattle.base.specs.Answer.{gives, refuses}
 use Rattle.rules.specs.Tables.{parentOf, rank, noteOf, placed, par, lev}
 use Rattle.rules.specs.Reading.{above, lowest, reach, childOf, soleBelow, sole, cut, rootOf, piece}
-use Rattle.state.specs.Layout.{stored, tablesIn, forestIn}
+use Rattle.state.specs.Layout.{tablesIn, forestIn}
 use Rattle.state.specs.Call.{headRefusal}
 use Rattle.state.specs.Ask.{askOne, askTwo}
-use Rattle.state.specs.Laws.Lists.{all-zeros}
 use Rattle.state.specs.declared.State.{State}
 use Rattle.state.specs.declared.Stage.{Stage}
-use Rattle.asking.specs.Cut.{Unmarked}
-use Rattle.testing.specs.Laws.Head.{Passed}
-
--- No mark stands in a table that the head let pass.
-pub passed-unmarked : {s : State} {f h : List ℕ} → Passed s f h → Unmarked (s .n) f
-passed-unmarked {s} {f} {h} p c l =
-    let n = s .n in
-    let long = p .bounds .frag-long in
-    let z = all-zeros (take (12 * n) (drop (stored * n) f)) (12 * n) (simp (length-take, length-drop) (omega arith)) (p .found .scratch) in
-    sym (getD-drop (stored * n) f c 0) ∙ sym (getD-take (12 * n) (drop (stored * n) f) c 0 (omega arith)) ∙ ap (λ (x : List ℕ). getD x c 0) z ∙ getD-replicate (12 * n) c 0 0 (omega arith)
 
 -- The questions are asked of the fragment table alone.
 module _ (s : State) (f h : List ℕ) where

@@ -1,10 +1,10 @@
--- `asking::count::is_child` meets its contract.
+-- `asking::ranges::is_child` meets its contract.
 -- Assumes nothing.
 use native.Mathlib.Omega.{arith}
 use borrow.Author.Needs.{needs}
-use Rattle.asking.specs.Laws.Count.{child-not, child-other}
-use Rattle.asking.proofs.count.is_child.Statement.{statement}
-use Rattle.asking.proofs.count.is_child.Tie as tie
+use Rattle.asking.specs.Laws.Sole.{child-not, child-other}
+use Rattle.asking.proofs.ranges.is_child.Statement.{statement}
+use Rattle.asking.proofs.ranges.is_child.Tie as tie
 
 returns : tie.Need-returns
 returns c = child-not _ _ _ _ _ (c .before .parent-of .ensures) (c .if1 .taken)

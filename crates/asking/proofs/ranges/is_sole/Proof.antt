@@ -1,10 +1,10 @@
--- `asking::count::is_sole` meets its contract.
+-- `asking::ranges::is_sole` meets its contract.
 -- Assumes nothing.
 use mathlib.Core.Path.{sym, _∙_}
 use borrow.Author.Needs.{needs}
-use Rattle.asking.specs.Laws.Count.{sole-first, sole-second}
-use Rattle.asking.proofs.count.is_sole.Statement.{statement}
-use Rattle.asking.proofs.count.is_sole.Tie as tie
+use Rattle.asking.specs.Laws.Sole.{sole-first, sole-second}
+use Rattle.asking.proofs.ranges.is_sole.Statement.{statement}
+use Rattle.asking.proofs.ranges.is_sole.Tie as tie
 
 returns : tie.Need-returns
 returns c = sole-first _ _ _ _ (sym (c .before .sole-below .ensures) ∙ c .if1 .taken)

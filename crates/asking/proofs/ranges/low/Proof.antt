@@ -1,11 +1,11 @@
--- `asking::count::low` meets its contract.
+-- `asking::ranges::low` meets its contract.
 -- Assumes nothing.
 use mathlib.Core.Path.{refl}
 use native.Mathlib.Omega.{arith}
 use borrow.Author.Needs.{needs}
-use Rattle.asking.specs.Laws.Count.{low-note}
-use Rattle.asking.proofs.count.low.Statement.{statement}
-use Rattle.asking.proofs.count.low.Tie as tie
+use Rattle.asking.specs.Laws.Sole.{low-note}
+use Rattle.asking.proofs.ranges.low.Statement.{statement}
+use Rattle.asking.proofs.ranges.low.Tie as tie
 
 returns : tie.Need-returns
 returns c = low-note _ _ _ _ _ _ (c .before .before .level-of .ensures) (c .before .note-at .ensures .says) (omega arith)

@@ -1,11 +1,11 @@
--- `asking::count::sole_below` meets its contract.
+-- `asking::ranges::sole_below` meets its contract.
 -- Assumes nothing.
 use mathlib.Core.Path.{sym, _∙_}
 use borrow.Author.Tests.{not-true, not-false}
 use borrow.Author.Needs.{needs}
-use Rattle.asking.specs.Laws.Count.{sole-not, sole-reach}
-use Rattle.asking.proofs.count.sole_below.Statement.{statement}
-use Rattle.asking.proofs.count.sole_below.Tie as tie
+use Rattle.asking.specs.Laws.Sole.{sole-not, sole-reach}
+use Rattle.asking.proofs.ranges.sole_below.Statement.{statement}
+use Rattle.asking.proofs.ranges.sole_below.Tie as tie
 
 returns : tie.Need-returns
 returns c = sole-not _ _ _ _ (sym (c .before .is-child .ensures) ∙ not-true _ (c .if1 .taken))
