@@ -17,7 +17,7 @@ use Rattle.rules.specs.Numbers.{turn, end, atTurn}
 use Rattle.rules.specs.Laws.Search.{first-passes, first-below}
 use Rattle.rules.specs.Laws.Up.{up-in, up-over, root-lev, level-arrives}
 use Rattle.rules.specs.Laws.Reading.{above-test}
-use Rattle.rules.specs.Laws.Numbers.{turn-in, at-turn, turn-at, above-range, child-turn, next-root}
+use Rattle.rules.specs.Laws.Numbers.{turn-in, at-turn, turn-at, above-range, turn-end, child-turn, next-root}
 use Rattle.state.specs.Layout.{forestIn, aboveIn}
 use Rattle.testing.specs.Whole.{Numbered}
 use Rattle.testing.specs.Laws.Whole.{levels, above-numbered}
@@ -49,12 +49,12 @@ module _ (n : ℕ) (t : Tables) (L : Levels n (par t) (lev t)) where
         }
 
     module _ (r : ℕ) (R : Top n t v r) where
-      pub top-on : end n t r ≤ turn n t v → (q : ℕ) → q ≡ atTurn n t (end n t r) → Top n t v q × (turn n t q ≡ end n t r)
+      pub top-on : end n t r ≤ turn n t v → (q : ℕ) → q ≡ atTurn n t (end n t r) → Top n t v q × (turn n t r < turn n t q)
       top-on l q e = elim (next-root n t L r (R .fragment) (R .root)) [
         | inl z ↦ absurd (omega (arith, turn-in n t L v h))
         | inr (u, g, p, m, z) ↦
             let y : q ≡ u = rw (e, ← z) (at-turn n t L u g) in
-            rw y (record { fragment = g; root = p; early = omega arith }, z)
+            rw y (record { fragment = g; root = p; early = omega arith }, omega (arith, turn-end n t L r (R .fragment)))
       ]
 
       pub top-done : turn n t v < end n t r → r ≡ rootOf t v

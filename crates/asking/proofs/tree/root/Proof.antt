@@ -1,9 +1,12 @@
-use Prim.Native.Nat.{_-_}
-use mathlib.Core.Path.{_≡_, _∙_}
+use Prim.Native.Nat.{ℕ, _-_, _≤_, _<_}
+use mathlib.Core.Path.{_≡_, ap, _∙_}
 use native.Mathlib.Omega.{arith}
-use Rattle.rules.specs.Numbers.{turn as turnOf}
-use Rattle.state.specs.Layout.{forestIn}
+use Rattle.rules.specs.Numbers.{turn as turnOf, end as endOf}
+use Rattle.rules.specs.Laws.Numbers.{turn-in}
+use Rattle.state.specs.Layout.{forestIn, whoseIn}
+use Rattle.testing.specs.Laws.Whole.{levels}
 use Rattle.asking.specs.Tree.{Top}
+use Rattle.asking.specs.Laws.Tree.{top-starts, top-on, top-done}
 use borrow.Author.Needs.{needs}
 use Rattle.asking.proofs.tree.root.Statement.{statement}
 use Rattle.asking.proofs.tree.root.Tie as tie
@@ -29,7 +32,11 @@ whose-at-requires c κs = search needs
 
 -- src/tree.rt:19:5
 loop-holds : tie.Need-loop-holds Inv-loop μ-loop
-loop-holds c = ?
+loop-holds c =
+    let s = c .before .before .before in
+    let N = s .pre .0 in
+    let h = s .pre .1 in
+    (c .before .turn-at .ensures .says ∙ N .turns _ h, top-starts _ _ (levels (N .whole)) _ h _ (c .whose-at .ensures .says ∙ N .whose 0 (omega arith)))
 
 -- src/tree.rt:19:11
 end-at-requires : tie.Need-end-at-requires Inv-loop μ-loop
@@ -43,17 +50,36 @@ end-at-requires-2 c κs = search needs
 whose-at-requires-2 : tie.Need-whose-at-requires-2 Inv-loop μ-loop
 whose-at-requires-2 c κs = search needs
 
+on : (c : tie.After-whose-at2 Inv-loop μ-loop)
+    → Top (c .before .before .before .before .before .before .before .before .args .n) (forestIn (c .before .before .before .before .before .before .before .before .args .n) (c .before .before .before .before .before .before .before .before .args .frag .now)) (c .before .before .before .before .before .before .before .before .args .v) (c .whose-at2 .result)
+    × (turnOf (c .before .before .before .before .before .before .before .before .args .n) (forestIn (c .before .before .before .before .before .before .before .before .args .n) (c .before .before .before .before .before .before .before .before .args .frag .now)) (c .before .before .before .before .loop .top)
+    < turnOf (c .before .before .before .before .before .before .before .before .args .n) (forestIn (c .before .before .before .before .before .before .before .before .args .n) (c .before .before .before .before .before .before .before .before .args .frag .now)) (c .whose-at2 .result))
+on c =
+    let s = c .before .before .before .before .before .before .before .before in
+    let N = s .pre .0 in
+    let L = levels (N .whole) in
+    let n = s .args .n in
+    let t = forestIn n (s .args .frag .now) in
+    let l = c .before .before .before .before .loop in
+    let e = c .before .end-at2 .ensures .says ∙ N .ends (l .top) (l .inv .1 .fragment) in
+    let m : endOf n t (l .top) ≤ turnOf n t (s .args .v) = omega (arith, N .ends (l .top) (l .inv .1 .fragment), l .inv .0) in
+    top-on n t L (s .args .v) (s .pre .1) (l .top) (l .inv .1) m _ (c .whose-at2 .ensures .says ∙ ap (λ (i : ℕ). whoseIn n (s .args .frag .now) i) e ∙ N .whose (endOf n t (l .top)) (omega (arith, turn-in n t L (s .args .v) (s .pre .1))))
+
 -- src/tree.rt:19:5
 loop-less : tie.Need-loop-less Inv-loop μ-loop
-loop-less c = ?
+loop-less c = omega (arith, on c, c .before .before .before .before .loop .inv)
 
 -- src/tree.rt:19:5
 loop-again : tie.Need-loop-again Inv-loop μ-loop
-loop-again c = ?
+loop-again c = (c .before .before .before .before .loop .inv .0, on c .0)
 
 -- src/tree.rt:13:1
 returns : tie.Need-returns Inv-loop μ-loop
-returns c = ?
+returns c =
+    let s = c .before .before .before .before .before .before in
+    let N = s .pre .0 in
+    let l = c .before .before .loop in
+    top-done _ _ (levels (N .whole)) _ (s .pre .1) _ (l .inv .1) (omega (arith, N .ends (l .top) (l .inv .1 .fragment), l .inv .0))
 
 pub root-spec : {M : Type 1} → statement M
 root-spec =
