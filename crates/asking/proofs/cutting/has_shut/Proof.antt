@@ -1,7 +1,10 @@
-use Prim.Native.Nat.{ℕ, _+_, _-_, _<_}
+use Prim.Native.Nat.{_+_, _-_, _<_}
 use mathlib.Core.Path.{_≡_, ap, _∙_}
 use native.Mathlib.Omega.{arith}
-use Rattle.rules.specs.Numbers.{end as endOf, atTurn}
+use lib.Dec.{T}
+use Rattle.rules.specs.Reading.{childOf}
+use Rattle.rules.specs.Numbers.{turn as turnOf, end as endOf, atTurn}
+use Rattle.rules.specs.Laws.Numbers.{turn-end}
 use Rattle.state.specs.Layout.{forestIn}
 use Rattle.testing.specs.Laws.Whole.{levels}
 use Rattle.asking.specs.Ranges.{Walked}
@@ -39,9 +42,28 @@ turn-at-requires c κs = search needs
 add-i : tie.Need-add-i Inv-loop μ-loop
 add-i c = search needs
 
+-- The child whose turn it is.
+at : (c : tie.After-whose-at Inv-loop μ-loop) → c .whose-at .result ≡ atTurn (c .before .before .before .before .before .before .before .args .n) (forestIn (c .before .before .before .before .before .before .before .args .n) (c .before .before .before .before .before .before .before .args .frag .now)) (c .before .before .loop .i)
+at c =
+    let s = c .before .before .before .before .before .before .before in
+    let N = s .pre .0 in
+    let l = c .before .before .loop in
+    c .whose-at .ensures .says ∙ N .whose (l .i) (omega (arith, end-in _ _ (levels (N .whole)) (s .args .v) (s .pre .1), l .inv .0))
+
+child : (c : tie.After-whose-at Inv-loop μ-loop)
+    → (c .whose-at .result < c .before .before .before .before .before .before .before .args .n) × (turnOf (c .before .before .before .before .before .before .before .args .n) (forestIn (c .before .before .before .before .before .before .before .args .n) (c .before .before .before .before .before .before .before .args .frag .now)) (c .whose-at .result) ≡ c .before .before .loop .i) × T (childOf (forestIn (c .before .before .before .before .before .before .before .args .n) (c .before .before .before .before .before .before .before .args .frag .now)) (c .before .before .before .before .before .before .before .args .v) (c .whose-at .result))
+child c =
+    let s = c .before .before .before .before .before .before .before in
+    let l = c .before .before .loop in
+    walk-child _ _ (levels (s .pre .0 .whole)) _ (s .pre .1) (l .i) (l .inv .1) (omega (arith, l .inv .0)) _ (at c)
+
 -- src/cutting.rt:40:5
 loop-holds : tie.Need-loop-holds Inv-loop μ-loop
-loop-holds c = ?
+loop-holds c =
+    let s = c .before .before .before .before in
+    let N = s .pre .0 in
+    let h = s .pre .1 in
+    (c .before .end-at .ensures .says ∙ N .ends _ h, walk-starts _ _ (levels (N .whole)) _ h _ (ap (λ i. i + 1) (c .turn-at .ensures .says ∙ N .turns _ h)))
 
 -- src/cutting.rt:41:13
 whose-at-requires : tie.Need-whose-at-requires Inv-loop μ-loop
@@ -49,11 +71,14 @@ whose-at-requires c κs = search needs
 
 -- src/cutting.rt:42:21
 reach-requires : tie.Need-reach-requires Inv-loop μ-loop
-reach-requires c κs = search needs
+reach-requires c κs = (c .before .before .before .before .before .before .before .pre .0, child c .0)
 
 -- src/cutting.rt:43:13
 returns : tie.Need-returns Inv-loop μ-loop
-returns c = ?
+returns c =
+    let s = c .before .before .before .before .before .before .before .before .before in
+    let l = c .before .before .before .before .loop in
+    walk-found _ _ (levels (s .pre .0 .whole)) _ (s .pre .1) (l .i) (l .inv .1) (omega (arith, l .inv .0)) _ (at (c .before .before)) (omega (arith, c .before .reach .ensures, c .before .before .before .before .before .before .before .level-of .ensures))
 
 -- src/cutting.rt:45:9
 end-at-requires-2 : tie.Need-end-at-requires-2 Inv-loop μ-loop
@@ -61,15 +86,26 @@ end-at-requires-2 c κs = search needs
 
 -- src/cutting.rt:40:5
 loop-less : tie.Need-loop-less Inv-loop μ-loop
-loop-less c = ?
+loop-less c =
+    let s = c .before .before .before .before .before .before .before .before .before .before in
+    let N = s .pre .0 in
+    let (k, e, x) = child (c .before .before .before) in
+    omega (arith, turn-end _ _ (levels (N .whole)) _ k, N .ends _ k)
 
 -- src/cutting.rt:40:5
 loop-again : tie.Need-loop-again Inv-loop μ-loop
-loop-again c = ?
+loop-again c =
+    let s = c .before .before .before .before .before .before .before .before .before .before in
+    let N = s .pre .0 in
+    let l = c .before .before .before .before .before .loop in
+    (l .inv .0, walk-on _ _ (levels (N .whole)) _ (s .pre .1) (l .i) (l .inv .1) (omega (arith, l .inv .0)) _ (at (c .before .before .before)) (omega (arith, c .before .before .reach .ensures, c .before .before .before .before .before .before .before .before .level-of .ensures)) _ (c .end-at2 .ensures .says ∙ N .ends _ (child (c .before .before .before) .0)))
 
 -- src/cutting.rt:33:1
 returns-2 : tie.Need-returns-2 Inv-loop μ-loop
-returns-2 c = ?
+returns-2 c =
+    let s = c .before .before .before .before .before .before in
+    let l = c .before .loop in
+    walk-done _ _ (levels (s .pre .0 .whole)) _ (s .pre .1) (l .i) (l .inv .1) (omega (arith, l .inv .0))
 
 pub has-shut-spec : {M : Type 1} → statement M
 has-shut-spec =
