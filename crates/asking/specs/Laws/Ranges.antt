@@ -178,7 +178,8 @@ module _ (n : ℕ) (t : Tables) (L : Levels n (par t) (lev t)) where
           | no m ↦ absurd (omega (arith, only (omega arith) a (omega arith) y, only (omega arith) b kb z))
         ])
 
-  -- Cut, by the children of a root and by those of any other.
+-- Cut, by the children of a root and by those of any other.
+module _ (n : ℕ) (t : Tables) where
   pub cut-root : (v : ℕ) → par t v ≡ v → leb 2 (count (childOf t v) n) ≡ cut n t v
   unfolding cut
   cut-root v e = rw (eq-eqb (par t v) v e, pick-true)

@@ -1,3 +1,13 @@
+use Prim.Native.Nat.{ℕ, _≤_, _<_, _-_}
+use mathlib.Core.Path.{_≡_, sym, ap, _∙_}
+use native.Mathlib.Decide.{ℕ-discrete}
+use native.Mathlib.Omega.{arith}
+use borrow.Author.Count.{below-more}
+use borrow.Author.Tests.{not-true, not-false}
+use Rattle.rules.specs.Reading.{rootOf}
+use Rattle.state.specs.Layout.{forestIn}
+use Rattle.asking.specs.Laws.Tree.{tree-yes, tree-no, piece-found}
+use borrow.Author.Needs.{needs}
 use Rattle.asking.proofs.tree.smallest.Statement.{statement}
 use Rattle.asking.proofs.tree.smallest.Tie as tie
 use Rattle.asking.proofs.tree.smallest.Reads as reads
@@ -6,38 +16,55 @@ use Rattle.asking.proofs.tree.root.Reads as root-reads
 use Rattle.tables.proofs.is_above.Reads as is-above-reads
 
 abbrev Inv-loop : tie.InvT-loop
-Inv-loop frag n v top u₀ u = ?
+Inv-loop frag n v top u₀ u = (u ≤ v) × ((j : ℕ) → j < u → rootOf (forestIn n frag) j ≡ rootOf (forestIn n frag) v → ⊥)
 
 abbrev μ-loop : tie.MeasureT-loop
-μ-loop frag n v top u₀ u = ?
+μ-loop frag n v top u₀ u = v - u
 
 -- src/tree.rt:30:9
 root-requires : tie.Need-root-requires Inv-loop μ-loop
-root-requires c κs = ?
+root-requires c κs = search needs
 
 -- src/tree.rt:32:5
 loop-holds : tie.Need-loop-holds Inv-loop μ-loop
-loop-holds c = ?
+loop-holds c = (omega arith, λ j l. absurd (omega arith))
 
 -- src/tree.rt:32:12
 is-above-requires : tie.Need-is-above-requires Inv-loop μ-loop
-is-above-requires c κs = ?
+is-above-requires c κs = search needs
 
 -- src/tree.rt:33:9
 add-u : tie.Need-add-u Inv-loop μ-loop
-add-u c = ?
+add-u c = search needs
 
 -- src/tree.rt:32:5
+-- A fragment that is passed over is not in the tree: so v is not passed before the smallest is found.
+over : (c : tie.Then1 Inv-loop μ-loop) → rootOf (forestIn (c .before .before .before .before .before .args .n) (c .before .before .before .before .before .args .frag .now)) (c .before .before .loop .u) ≡ rootOf (forestIn (c .before .before .before .before .before .args .n) (c .before .before .before .before .before .args .frag .now)) (c .before .before .before .before .before .args .v) → ⊥
+over c =
+    let l = c .before .before .loop in
+    let s = c .before .before .before .before .before in
+    tree-no (s .pre .0) (s .args .v) (l .u) _ (s .pre .1) (omega (arith, s .pre .1)) (c .before .before .before .root .ensures) (sym (c .before .is-above .ensures) ∙ not-true _ (c .if1 .taken))
+
+not-yet : (c : tie.Then1 Inv-loop μ-loop) → c .before .before .loop .u < c .before .before .before .before .before .args .v
+not-yet c = elim (ℕ-discrete (c .before .before .loop .u) (c .before .before .before .before .before .args .v)) [
+  | yes e ↦ absurd (over c (ap (rootOf _) e))
+  | no d ↦ omega arith
+]
+
 loop-less : tie.Need-loop-less Inv-loop μ-loop
-loop-less c = ?
+loop-less c = omega (arith, not-yet c)
 
 -- src/tree.rt:32:5
 loop-again : tie.Need-loop-again Inv-loop μ-loop
-loop-again c = ?
+loop-again c = (omega (arith, not-yet c), below-more _ _ (c .before .before .loop .inv .1) (over c))
 
 -- src/tree.rt:26:1
 returns : tie.Need-returns Inv-loop μ-loop
-returns c = ?
+returns c =
+    let l = c .before .before .loop in
+    let s = c .before .before .before .before .before in
+    let h = s .pre .1 in
+    piece-found _ _ _ _ (omega arith) (tree-yes (s .pre .0) (s .args .v) (l .u) _ h (omega arith) (c .before .before .before .root .ensures) (sym (c .before .is-above .ensures) ∙ not-false _ (c .if1 .left))) (l .inv .1)
 
 pub smallest-spec : {M : Type 1} → statement M
 smallest-spec =
