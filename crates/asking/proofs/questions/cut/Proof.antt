@@ -20,7 +20,7 @@ unfolding cutCall
 returns-2 c = c .not-judged2 .ensures ∙ one-far isRead _ _ _ _ (head-is isRead refl _ _ _ _ _ (c .before .before .before .before .is-read .ensures) (c .before .before .before .head .ensures)) _ _ (omega arith) (omega arith)
 
 is-cut-requires : tie.Need-is-cut-requires
-is-cut-requires c κs = (head-numbered _ _ _ _ _ (c .before .before .before .before .is-read .ensures) (c .before .before .before .head .ensures) (omega arith), omega arith)
+is-cut-requires c κs = (head-numbered _ _ _ _ _ (c .before .before .before .is-read .ensures) (c .before .before .head .ensures) (omega arith), omega arith)
 
 returns-3 : tie.Need-returns-3
 unfolding cutCall

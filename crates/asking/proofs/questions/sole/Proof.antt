@@ -28,7 +28,7 @@ unfolding soleCall
 returns-4 c = c .not-judged4 .ensures ∙ two-same isRead _ _ _ _ (head-is isRead refl _ _ _ _ _ (c .before .before .before .before .before .before .is-read .ensures) (c .before .before .before .before .before .head .ensures)) _ _ _ (omega arith) (omega arith) (omega arith) (omega arith)
 
 is-sole-requires : tie.Need-is-sole-requires
-is-sole-requires c κs = (head-numbered _ _ _ _ _ (c .before .before .before .before .before .before .is-read .ensures) (c .before .before .before .before .before .head .ensures) (omega arith), omega arith, omega arith)
+is-sole-requires c κs = (head-numbered _ _ _ _ _ (c .before .before .before .before .before .is-read .ensures) (c .before .before .before .before .head .ensures) (omega arith), omega arith, omega arith)
 
 returns-5 : tie.Need-returns-5
 unfolding soleCall
