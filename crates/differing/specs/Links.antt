@@ -10,7 +10,7 @@ use Rattle.base.specs.Link.{Link}
 use Rattle.rules.specs.Tables.{Tables, placed}
 use Rattle.state.specs.Layout.{words, forestIn, heldLinks}
 use Rattle.state.specs.Call.{fragmentsMost, roomMost}
-use Rattle.state.specs.Test.{endsFit, noneTwice}
+use Rattle.state.specs.Test.{isBuilding, endsFit, noneTwice}
 use Rattle.state.specs.declared.State.{State}
 use Rattle.testing.specs.Test.{headButLinks}
 use Rattle.differing.specs.Laws.Scratch.{Blank}
@@ -23,10 +23,10 @@ linkFits n t a b = ltb a b && (ltb b n && (not (placed t a) && not (placed t b))
 unfoldable pub linksDiffer : ℕ → Tables → List Link → Bool
 linksDiffer n t held = endsFit n t held && noneTwice held
 
--- 'Order: 1, 2, 3, 6, 11': the refusal due at the head of a call before the quota of its pieces is looked at; 0 where none is.
-unfoldable pub headButQuota : (allowed : Bool) → State → List ℕ → List ℕ → ℕ
-headButQuota allowed s f h =
-    pick (not (eqb (headButLinks allowed s f h) 0)) (headButLinks allowed s f h)
+-- 'Order: 1, 2, 3, 6, 11': the refusal due at the head of a call in Building before the quota of its pieces is looked at; 0 where none is.
+unfoldable pub headButQuota : State → List ℕ → List ℕ → ℕ
+headButQuota s f h =
+    pick (not (eqb (headButLinks (isBuilding (s .stage)) s f h) 0)) (headButLinks (isBuilding (s .stage)) s f h)
     (pick (not (linksDiffer (s .n) (forestIn (s .n) f) (heldLinks (s .held) h))) 11
     0)
 

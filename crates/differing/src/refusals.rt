@@ -1,4 +1,4 @@
-// The head of a call whose held links are tested: the refusals 1, 2, 3, 6 and 11, this one but for the quota of the pieces.
+// The head of a call in Building, where the held links are tested: the refusals 1, 2, 3, 6 and 11, this one but for the quota of the pieces.
 ghost use mathlib.Core.Path.{_≡_};
 ghost use Rattle.state.specs.Layout.{forestIn, heldLinks};
 ghost use Rattle.differing.specs.Links.{linksDiffer, headButQuota, Lookable};
@@ -6,6 +6,7 @@ use crate::ends::ends_fit;
 use crate::twice::none_twice;
 use state::State;
 use state::clear;
+use state::is_building;
 use tables::STORED;
 use testing::head;
 
@@ -24,11 +25,12 @@ fn links_differ(frag: &mut [u32], held: &[u32], n: usize, k: usize, count: usize
     true
 }
 
-// The refusal that is due, 0 where none is; `allowed` says whether the stage allows the call. Scratch is 0 again.
-pub fn head_but_quota(s: State, allowed: bool, frag: &mut [u32], held: &[u32]) -> u32
-    ensures { λ r. ⌜ (r ≡ headButQuota allowed s (now (frag .entry)) (now (held .entry))) × (now (frag .exit) ≡ now (frag .entry)) ⌝ }
+// The refusal that is due, 0 where none is. Scratch is 0 again.
+pub fn head_but_quota(s: State, frag: &mut [u32], held: &[u32]) -> u32
+    ensures { λ r. ⌜ (r ≡ headButQuota s (now (frag .entry)) (now (held .entry))) × (now (frag .exit) ≡ now (frag .entry)) ⌝ }
 {
-    let refusal = head(s, allowed, frag, held);
+    let stage = s.stage;
+    let refusal = head(s, is_building(stage), frag, held);
     if refusal != 0 {
         return refusal;
     }

@@ -6,15 +6,12 @@ ghost use Rattle.pieces.specs.Gathered.{gatheredIn};
 use crate::quota::pieces_fit;
 use differing::head_but_quota;
 use state::State;
-use state::is_building;
 
 // The refusal that is due. Where it is 0 the pieces stand in sections 4 to 6, else the fragment table is as it was found.
 pub fn gathered(s: State, frag: &mut [u32], held: &[u32]) -> u32
     ensures { λ r. ⌜ (r ≡ headRefusal isBuilding s (now (frag .entry)) (now (held .entry))) × (now (frag .exit) ≡ gatheredIn s (now (frag .entry)) (now (held .entry))) ⌝ }
 {
-    let stage = s.stage;
-    let allowed = is_building(stage);
-    let refusal = head_but_quota(s, allowed, frag, held);
+    let refusal = head_but_quota(s, frag, held);
     if refusal != 0 {
         return refusal;
     }

@@ -30,8 +30,10 @@ use Rattle.state.specs.Laws.Lists.{all-none, zeros-pass}
 use Rattle.state.specs.Laws.Clear.{wiped-length, wiped-front, wiped-past, wiped-within}
 use Rattle.state.specs.Laws.Tests.{every-more, every-fails}
 use Rattle.state.specs.Laws.Layout.{tables-are, section-length, section-at}
+use Rattle.state.specs.Laws.Behind.{plain-rest}
 use Rattle.state.specs.Laws.Lay.{frag-laid, held-laid}
 use Rattle.state.specs.declared.State.{State}
+use Rattle.state.specs.declared.Stage.the-variants.{Built}
 use Rattle.state.specs.declared.Started.the-variants.{Ready, Refused}
 use Rattle.adopting.specs.Adopt.{below, Inside, Leads, Verdict, Rooted, Placed}
 
@@ -198,9 +200,9 @@ module _ (n k : ℕ) (ps f f₁ f₂ h h₂ : List ℕ) (b : Bounds n k (length 
       at : (j m : ℕ) → j ≡ m → m < 2 * n → getD f₂ j 0 ≡ getD f₁ m 0
       at j m q l = ap (λ x. getD f₂ x 0) q ∙ kept m l
 
-  pub frag-adopted : f₂ ≡ fragOf n (adopted n ps) f
+  pub frag-adopted : f₂ ≡ fragOf Built n (adopted n ps) f
   frag-adopted = frag-laid (adoptedState n k) f f₂ h₂ _ tables-adopted long
-      (zero-run (stored * n) ((words - stored) * n) f₂ (omega (arith, long)) (λ j q l. none j (omega arith) (omega arith)))
+      (plain-rest Built n (adopted n ps) f₂ (λ x. x) long (zero-run (stored * n) ((words - stored) * n) f₂ (omega (arith, long)) (λ j q l. none j (omega arith) (omega arith))))
       (after ∙ past f₁ ∙ ap (λ g. drop (14 * n) g) (p .after) ∙ sym (past f))
     where
       after : drop (words * n) f₂ ≡ drop (words * n) f₁
@@ -222,6 +224,6 @@ module _ (n k : ℕ) (ps f h : List ℕ) (r : ℕ) (e : r ≡ adoptRefusal n k p
   unfolding adoptCall
   adopt-refused d = rw (← e) (simp tests)
 
-  pub adopt-ready : r ≡ 0 → (x : State) → x ≡ adoptedState n k → (f′ h′ : List ℕ) → f′ ≡ fragOf n (adopted n ps) f → h′ ≡ heldOf n k (adopted n ps) h → begunTold (Ready x) f′ h′ ≡ adoptCall n k ps f h
+  pub adopt-ready : r ≡ 0 → (x : State) → x ≡ adoptedState n k → (f′ h′ : List ℕ) → f′ ≡ fragOf Built n (adopted n ps) f → h′ ≡ heldOf n k (adopted n ps) h → begunTold (Ready x) f′ h′ ≡ adoptCall n k ps f h
   unfolding adoptCall
   adopt-ready z x ex f′ h′ p q = rw (ex, ← e, p, q) (simp tests)

@@ -1,7 +1,7 @@
 -- The answers of the test of the held links' ends, link by link, and what they come to.
 -- Assumes nothing.
 use Prim.Native.Nat.{ℕ, suc, _+_, _-_, _≤_, _<_}
-use mathlib.Core.Path.{_≡_, sym}
+use mathlib.Core.Path.{_≡_, sym, _∙_}
 use mathlib.Core.Bool.{Bool, true, false, not}
 use mathlib.Core.List.{List, [], _∷_}
 use native.Mathlib.Omega.{arith}
@@ -15,7 +15,7 @@ use Rattle.base.specs.Pick.{tests}
 use Rattle.base.specs.Link.{Link}
 use Rattle.rules.specs.Tables.{Tables, rank, placed}
 use Rattle.state.specs.Layout.{heldLinks, heldLink}
-use Rattle.state.specs.Test.{endsFit, noneTwice}
+use Rattle.state.specs.Test.{isBuilding, endsFit, noneTwice}
 use Rattle.state.specs.declared.State.{State}
 use Rattle.testing.specs.Laws.Fragment.{placed-so, placed-not}
 use Rattle.testing.specs.Laws.Test.{but-room, but-blank}
@@ -92,8 +92,8 @@ module _ (n : ℕ) (t : Tables) (l : List Link) where
   differ-twice e b q = rw (← e) q
 
 -- Where no refusal is due before them the held links can be looked at.
-pub headed-lookable : {allowed : Bool} {s : State} {f h : List ℕ} → Headed allowed s f h → Lookable (s .n) (s .k) (s .held) f h
-headed-lookable {s = s} {f = f} {h = h} P =
+pub headed-lookable : {b : Bool} {s : State} {f h : List ℕ} → b ≡ isBuilding (s .stage) → Headed b s f h → Lookable (s .n) (s .k) (s .held) f h
+headed-lookable {s = s} {f = f} {h = h} e P =
     let B = headed-bounds P in
     let few = but-room s f h (P .but-links) in
     record {
@@ -101,7 +101,7 @@ headed-lookable {s = s} {f = f} {h = h} P =
       some-room = B .some-room;
       room = B .room;
       long = B .frag-long;
-      blank = but-blank s f h (P .but-links);
+      blank = but-blank s f h (P .but-links) (sym e ∙ P .may);
       few = few;
       there = omega (arith, B .held-long);
     }

@@ -78,7 +78,7 @@ links-gatherable {n} {k} {count} {f} {h} L e = record {
 }
 
 -- Where no refusal is due before the quota, in a table that is as it was found.
-pub quota-gatherable : {allowed : Bool} {s : State} {f g h : List ℕ} → Differing allowed s f h → g ≡ f → Gatherable (s .n) g h (s .held) × (0 < s .k) × (s .k ≤ roomMost)
+pub quota-gatherable : {s : State} {f g h : List ℕ} → Differing s f h → g ≡ f → Gatherable (s .n) g h (s .held) × (0 < s .k) × (s .k ≤ roomMost)
 quota-gatherable D q =
-    let L = headed-lookable (head-known _ _ _ _ (D .due)) in
+    let L = headed-lookable refl (head-known _ _ _ _ (D .due)) in
     (rw q (links-gatherable L (D .ends)), L .some-room, L .room)

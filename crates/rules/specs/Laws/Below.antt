@@ -24,11 +24,11 @@ abbrev pub isRoot : Tables → ℕ → Bool
 isRoot t c = eqb (par t c) c
 
 module _ (n : ℕ) (t : Tables) where
-  below-if-yes : (test : ℕ → Bool) (c : ℕ) → T (test c) → belowIf n t test c ≡ below n t c
+  pub below-if-yes : (test : ℕ → Bool) (c : ℕ) → T (test c) → belowIf n t test c ≡ below n t c
   unfolding belowIf pick
   below-if-yes test c s = rw (T-true (test c) s)
 
-  below-if-no : (test : ℕ → Bool) (c : ℕ) → (T (test c) → ⊥) → belowIf n t test c ≡ 0
+  pub below-if-no : (test : ℕ → Bool) (c : ℕ) → (T (test c) → ⊥) → belowIf n t test c ≡ 0
   unfolding belowIf pick
   below-if-no test c s = rw (T-false (test c) s)
 

@@ -10,27 +10,28 @@ use Rattle.differing.proofs.refusals.head_but_quota.Statement.{statemen
 use Rattle.differing.proofs.refusals.head_but_quota.Tie as tie
 
 returns : tie.Need-returns
-returns c = (quota-due _ _ _ _ _ (c .before .head .ensures) (c .if1 .taken), refl)
+returns c = (quota-due _ _ _ _ (c .before .before .before .is-building .ensures) _ (c .before .head .ensures) (c .if1 .taken), refl)
 
 links-differ-requires : tie.Need-links-differ-requires
-links-differ-requires c κs = headed-lookable (head-known _ _ _ _ (sym (c .before .before .head .ensures) ∙ c .before .if1 .left))
+links-differ-requires c κs = headed-lookable (c .before .before .before .before .is-building .ensures) (head-known _ _ _ _ (sym (c .before .before .head .ensures) ∙ c .before .if1 .left))
 
 returns-2 : tie.Need-returns-2
 returns-2 c =
     let h = c .before .before .before .before .before .before .head .ensures in
     let t = c .before .before .before .links-differ .ensures in
-    (quota-links _ _ _ _ _ h (c .before .before .before .before .before .if1 .left) (sym (not-true _ (c .if2 .taken)) ∙ t .0), t .1)
+    (quota-links _ _ _ _ (c .before .before .before .before .before .before .before .before .is-building .ensures) _ h (c .before .before .before .before .before .if1 .left) (sym (not-true _ (c .if2 .taken)) ∙ t .0), t .1)
 
 returns-3 : tie.Need-returns-3
 returns-3 c =
     let h = c .before .before .before .before .before .before .head .ensures in
     let t = c .before .before .before .links-differ .ensures in
-    (quota-none _ _ _ _ _ h (c .before .before .before .before .before .if1 .left) (sym (not-false _ (c .if2 .left)) ∙ t .0), t .1)
+    (quota-none _ _ _ _ (c .before .before .before .before .before .before .before .before .is-building .ensures) _ h (c .before .before .before .before .before .if1 .left) (sym (not-false _ (c .if2 .left)) ∙ t .0), t .1)
 
 pub head-but-quota-spec : {M : Type 1} → statement M
 head-but-quota-spec =
     tie.close
     (tie.spec
+    (λ c κs. search needs)
     (λ c κs. search needs)
     (λ c. search needs)
     returns

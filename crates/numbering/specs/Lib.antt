@@ -1,0 +1,4 @@
+pub mod Numbering
+pub mod Order
+pub mod Passes
+pub mod Laws
