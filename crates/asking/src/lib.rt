@@ -8,6 +8,6 @@ mod tree;
 pub use ask::level;
 pub use ask::parent;
 pub use questions::cut;
-pub use questions::piece;
 pub use questions::sole;
 pub use ranges::low;
+pub use tree::piece;
