@@ -1,6 +1,6 @@
 -- Piece: what the head of the call leaves in the table, the answer, and that the table is as found again.
 -- Assumes nothing.
-use Prim.Native.Nat.{ℕ, _+_, _*_, _≤_}
+use Prim.Native.Nat.{ℕ, _+_, _*_, _≤_, _<_}
 use mathlib.Core.Path.{_≡_, refl, sym, ap, _∙_}
 use mathlib.Core.Bool.{Bool, true, false}
 use mathlib.Core.List.{List}
@@ -9,13 +9,13 @@ use lib.Dec.{T, leb}
 use lib.ListN.{length, getD, take, drop, length-take, length-drop}
 use lib.Seq.{ext-getD, getD-take, getD-drop}
 use Rattle.base.specs.Pick.{pick, tests}
-use Rattle.base.specs.Truth.{true-T, false-T}
+use Rattle.base.specs.Truth.{T-dec, T-true, T-false, true-T, false-T}
 use Rattle.base.specs.Answer.{gives, refuses}
 use Rattle.rules.specs.Tables.{Tables}
+use Rattle.rules.specs.Reading.{piece}
 use Rattle.rules.specs.Numbers.{turn, end, atTurn}
 use Rattle.state.specs.Layout.{wiped, forestIn}
-use Rattle.state.specs.Call.{headRefusal}
-use Rattle.state.specs.Ask.{asks, askOne}
+use Rattle.state.specs.Ask.{asks, askOne, pieceCall}
 use Rattle.state.specs.Test.{isBuilt, isNumbered, allZero}
 use Rattle.state.specs.Laws.Layout.{section-at}
 use Rattle.state.specs.Laws.Lists.{drop-take, zeros-pass, all-none}
@@ -25,12 +25,21 @@ use Rattle.state.specs.declared.Stage.{Stage}
 use Rattle.state.specs.declared.Stage.the-variants.{Building, Built, Reading, Read}
 use Rattle.testing.specs.Test.{headButLinks}
 use Rattle.testing.specs.Whole.{Whole, Numbered}
-use Rattle.testing.specs.Laws.Head.{head-known, head-passed}
-use Rattle.testing.specs.Laws.Whole.{passed-numbered}
+use Rattle.testing.specs.Laws.Head.{Passed, head-known, head-is, head-passed}
+use Rattle.testing.specs.Laws.Whole.{passed-whole, passed-numbered}
 use Rattle.numbering.specs.Numbering.{numbered, numberedIn}
 use Rattle.numbering.specs.Order.{Only, Blank}
 use Rattle.numbering.specs.Laws.Only.{take-by, only-forest, only-whole}
 use Rattle.numbering.specs.Laws.Numbered.{numbered-only, numbered-turn, numbered-end, numbered-whose, number-refused, number-later, built-orderable, number-built}
+use Rattle.asking.specs.Laws.Asked.{same-piece}
+
+-- The answer about v.
+module _ {A : Type 0} (n v : ℕ) (x : A) where
+  pub told-far : n ≤ v → refuses 4 0 ≡ pick (leb n v) (refuses 4 0) (gives x)
+  told-far l = simp tests
+
+  pub told-near : v < n → (y : A) → y ≡ x → gives y ≡ pick (leb n v) (refuses 4 0) (gives x)
+  told-near l y e = rw e (simp tests)
 
 -- A forest that is numbered in its table.
 module _ (n : ℕ) (f : List ℕ) (w : Whole n f) where
@@ -88,3 +97,31 @@ module _ (s : State) (f h : List ℕ) (r : ℕ) (may : Bool) (em : may ≡ asks 
 
     built-made : isBuilt (s .stage) ≡ true → g ≡ numbered (s .n) (forestIn (s .n) f) f
     built-made q = eg ∙ sym (number-built may s f h r er z _ refl q _ refl)
+
+    found : Passed s f h
+    found = head-passed asks refl s f h r may em er z
+
+    pub lent-numbered : Numbered (s .n) g
+    lent-numbered = elim (T-dec (isBuilt (s .stage))) [
+      | yes b ↦ rw (built-made (T-true (isBuilt (s .stage)) b)) (made-numbered (s .n) f (passed-whole found))
+      | no b ↦
+          let q = T-false (isBuilt (s .stage)) b in
+          rw (later-same q) (passed-numbered found (numbered-stage (s .stage) (sym em ∙ head-known may s f h (sym er ∙ z) .may) q))
+    ]
+
+    lent-forest : forestIn (s .n) g ≡ forestIn (s .n) f
+    lent-forest = elim (T-dec (isBuilt (s .stage))) [
+      | yes b ↦ rw (built-made (T-true (isBuilt (s .stage)) b)) (made-same (s .n) f (passed-whole found))
+      | no b ↦ ap (forestIn (s .n)) (later-same (T-false (isBuilt (s .stage)) b))
+    ]
+
+    pub piece-told : (v : ℕ) → pick (leb (s .n) v) (refuses 4 0) (gives (piece (s .n) (forestIn (s .n) g) v)) ≡ pieceCall s f h v
+    unfolding pieceCall askOne
+    piece-told v = rw (lent-forest, same-piece s f h v, ← head-is asks refl s f h r may em er, z) (simp tests)
+
+    module _ (b : Bool) (eb : b ≡ isBuilt (s .stage)) where
+      pub lent-same : b ≡ false → g ≡ f
+      lent-same q = later-same (sym eb ∙ q)
+
+      pub lent-back : b ≡ true → wiped (4 * s .n) (7 * s .n) g ≡ f
+      lent-back q = rw (built-made (sym eb ∙ q)) (made-back (s .n) f (passed-whole found) (built-orderable may s f h r er z b eb q .blank))
