@@ -86,7 +86,14 @@ numbered-stage Built e z = absurd (false-T (isBuilt Built) z tt)
 numbered-stage Reading e z = tt
 numbered-stage Read e z = tt
 
--- The table g that the head of the call leaves of f; r is the refusal that is due, b whether the forest has just been built.
+-- The table g that is lent on, of a table f that the head of the call lets pass.
+pub record Lent (s : State) (f g : List ℕ) : Type 0 where
+  pub numbers : Numbered (s .n) g
+  pub forest : forestIn (s .n) g ≡ forestIn (s .n) f
+  pub later : isBuilt (s .stage) ≡ false → g ≡ f
+  pub back : isBuilt (s .stage) ≡ true → wiped (4 * s .n) (7 * s .n) g ≡ f
+
+-- What the head leaves of f; r is the refusal that is due.
 module _ (s : State) (f h : List ℕ) (r : ℕ) (may : Bool) (em : may ≡ asks (s .stage)) (er : r ≡ headButLinks may s f h) (g : List ℕ) (eg : g ≡ numberedIn may s f h) where
   pub head-same : (r ≡ 0 → ⊥) → g ≡ f
   head-same d = eg ∙ sym (number-refused may s f h r er d)
@@ -98,30 +105,29 @@ module _ (s : State) (f h : List ℕ) (r : ℕ) (may : Bool) (em : may ≡ asks 
     built-made : isBuilt (s .stage) ≡ true → g ≡ numbered (s .n) (forestIn (s .n) f) f
     built-made q = eg ∙ sym (number-built may s f h r er z _ refl q _ refl)
 
-    found : Passed s f h
-    found = head-passed asks refl s f h r may em er z
-
-    pub lent-numbered : Numbered (s .n) g
-    lent-numbered = elim (T-dec (isBuilt (s .stage))) [
-      | yes b ↦ rw (built-made (T-true (isBuilt (s .stage)) b)) (made-numbered (s .n) f (passed-whole found))
-      | no b ↦
-          let q = T-false (isBuilt (s .stage)) b in
-          rw (later-same q) (passed-numbered found (numbered-stage (s .stage) (sym em ∙ head-known may s f h (sym er ∙ z) .may) q))
-    ]
-
-    lent-forest : forestIn (s .n) g ≡ forestIn (s .n) f
-    lent-forest = elim (T-dec (isBuilt (s .stage))) [
-      | yes b ↦ rw (built-made (T-true (isBuilt (s .stage)) b)) (made-same (s .n) f (passed-whole found))
-      | no b ↦ ap (forestIn (s .n)) (later-same (T-false (isBuilt (s .stage)) b))
-    ]
+    pub lent : Lent s f g
+    lent =
+        let p = head-passed asks refl s f h r may em er z in
+        let w = passed-whole p in
+        elim (T-dec (isBuilt (s .stage))) [
+          | yes b ↦
+              let q = T-true (isBuilt (s .stage)) b in
+              rw (built-made q) (record {
+                numbers = made-numbered (s .n) f w;
+                forest = made-same (s .n) f w;
+                later = λ a. absurd (false-T (isBuilt (s .stage)) a b);
+                back = λ a. made-back (s .n) f w (built-orderable may s f h r er z _ refl q .blank);
+              })
+          | no b ↦
+              let q = T-false (isBuilt (s .stage)) b in
+              rw (later-same q) (record {
+                numbers = passed-numbered p (numbered-stage (s .stage) (sym em ∙ head-known may s f h (sym er ∙ z) .may) q);
+                forest = refl;
+                later = λ a. refl;
+                back = λ a. absurd (b (true-T (isBuilt (s .stage)) a));
+              })
+        ]
 
     pub piece-told : (v : ℕ) → pick (leb (s .n) v) (refuses 4 0) (gives (piece (s .n) (forestIn (s .n) g) v)) ≡ pieceCall s f h v
     unfolding pieceCall askOne
-    piece-told v = rw (lent-forest, same-piece s f h v, ← head-is asks refl s f h r may em er, z) (simp tests)
-
-    module _ (b : Bool) (eb : b ≡ isBuilt (s .stage)) where
-      pub lent-same : b ≡ false → g ≡ f
-      lent-same q = later-same (sym eb ∙ q)
-
-      pub lent-back : b ≡ true → wiped (4 * s .n) (7 * s .n) g ≡ f
-      lent-back q = rw (built-made (sym eb ∙ q)) (made-back (s .n) f (passed-whole found) (built-orderable may s f h r er z b eb q .blank))
+    piece-told v = rw (lent .forest, same-piece s f h v, ← head-is asks refl s f h r may em er, z) (simp tests)

@@ -29,9 +29,9 @@ module _ (n : ℕ) (t : Tables) (L : Levels n (par t) (lev t)) where
   unfolding rootOf
   root-above r u hr hu e = (
     (λ a.
-    let o : Over (par t) (lev t) r u = above-test t r u .0 a in
-    let z : lev t u ≡ lev t u - lev t r = omega (arith, root-lev L r hr e) in
-    ap (λ (k : ℕ). up (par t) k u) z ∙ o),
+        let o : Over (par t) (lev t) r u = above-test t r u .0 a in
+        let z : lev t u ≡ lev t u - lev t r = omega (arith, root-lev L r hr e) in
+        ap (λ (k : ℕ). up (par t) k u) z ∙ o),
     (λ q. above-test t r u .1 (rw q at (up-over L (lev t u) u hu))),
   )
 

@@ -1,3 +1,5 @@
+-- `asking::tree::root` meets its contract: a root whose turn does not come behind that of v, one root after another.
+-- Assumes nothing.
 use Prim.Native.Nat.{ℕ, _-_, _≤_, _<_}
 use mathlib.Core.Path.{_≡_, ap, _∙_}
 use native.Mathlib.Omega.{arith}
@@ -10,11 +12,6 @@ use Rattle.asking.specs.Laws.Tree.{top-starts, top-on, top-done}
 use borrow.Author.Needs.{needs}
 use Rattle.asking.proofs.tree.root.Statement.{statement}
 use Rattle.asking.proofs.tree.root.Tie as tie
-use Rattle.asking.proofs.tree.root.Reads as reads
-use Rattle.asking.proofs.tree.root.Lts as lts
-use Rattle.tables.proofs.end_at.Reads as end-at-reads
-use Rattle.tables.proofs.turn_at.Reads as turn-at-reads
-use Rattle.tables.proofs.whose_at.Reads as whose-at-reads
 
 abbrev Inv-loop : tie.InvT-loop
 Inv-loop frag n v turn top₀ top = (turn ≡ turnOf n (forestIn n frag) v) × Top n (forestIn n frag) v top
@@ -22,15 +19,6 @@ Inv-loop frag n v turn top₀ top = (turn ≡ turnOf n (forestIn n frag) v) × T
 abbrev μ-loop : tie.MeasureT-loop
 μ-loop frag n v turn top₀ top = turn - turnOf n (forestIn n frag) top
 
--- src/tree.rt:17:9
-turn-at-requires : tie.Need-turn-at-requires Inv-loop μ-loop
-turn-at-requires c κs = search needs
-
--- src/tree.rt:18:9
-whose-at-requires : tie.Need-whose-at-requires Inv-loop μ-loop
-whose-at-requires c κs = search needs
-
--- src/tree.rt:19:5
 loop-holds : tie.Need-loop-holds Inv-loop μ-loop
 loop-holds c =
     let s = c .before .before .before in
@@ -38,18 +26,7 @@ loop-holds c =
     let h = s .pre .1 in
     (c .before .turn-at .ensures .says ∙ N .turns _ h, top-starts _ _ (levels (N .whole)) _ h _ (c .whose-at .ensures .says ∙ N .whose 0 (omega arith)))
 
--- src/tree.rt:19:11
-end-at-requires : tie.Need-end-at-requires Inv-loop μ-loop
-end-at-requires c κs = search needs
-
--- src/tree.rt:20:33
-end-at-requires-2 : tie.Need-end-at-requires-2 Inv-loop μ-loop
-end-at-requires-2 c κs = search needs
-
--- src/tree.rt:20:9
-whose-at-requires-2 : tie.Need-whose-at-requires-2 Inv-loop μ-loop
-whose-at-requires-2 c κs = search needs
-
+-- The next root.
 on : (c : tie.After-whose-at2 Inv-loop μ-loop)
     → Top (c .before .before .before .before .before .before .before .before .args .n) (forestIn (c .before .before .before .before .before .before .before .before .args .n) (c .before .before .before .before .before .before .before .before .args .frag .now)) (c .before .before .before .before .before .before .before .before .args .v) (c .whose-at2 .result)
     × (turnOf (c .before .before .before .before .before .before .before .before .args .n) (forestIn (c .before .before .before .before .before .before .before .before .args .n) (c .before .before .before .before .before .before .before .before .args .frag .now)) (c .before .before .before .before .loop .top)
@@ -65,15 +42,12 @@ on c =
     let m : endOf n t (l .top) ≤ turnOf n t (s .args .v) = omega (arith, N .ends (l .top) (l .inv .1 .fragment), l .inv .0) in
     top-on n t L (s .args .v) (s .pre .1) (l .top) (l .inv .1) m _ (c .whose-at2 .ensures .says ∙ ap (λ (i : ℕ). whoseIn n (s .args .frag .now) i) e ∙ N .whose (endOf n t (l .top)) (omega (arith, turn-in n t L (s .args .v) (s .pre .1))))
 
--- src/tree.rt:19:5
 loop-less : tie.Need-loop-less Inv-loop μ-loop
 loop-less c = omega (arith, on c, c .before .before .before .before .loop .inv)
 
--- src/tree.rt:19:5
 loop-again : tie.Need-loop-again Inv-loop μ-loop
 loop-again c = (c .before .before .before .before .loop .inv .0, on c .0)
 
--- src/tree.rt:13:1
 returns : tie.Need-returns Inv-loop μ-loop
 returns c =
     let s = c .before .before .before .before .before .before in
@@ -87,12 +61,12 @@ root-spec =
     (tie.spec
     Inv-loop
     μ-loop
-    turn-at-requires
-    whose-at-requires
+    (λ c κs. search needs)
+    (λ c κs. search needs)
     loop-holds
-    end-at-requires
-    end-at-requires-2
-    whose-at-requires-2
+    (λ c κs. search needs)
+    (λ c κs. search needs)
+    (λ c κs. search needs)
     loop-less
     loop-again
     returns)

@@ -1,3 +1,5 @@
+-- `asking::tree::smallest` meets its contract: no fragment before u is in the tree.
+-- Assumes nothing.
 use Prim.Native.Nat.{ℕ, _≤_, _<_, _-_}
 use mathlib.Core.Path.{_≡_, sym, ap, _∙_}
 use native.Mathlib.Decide.{ℕ-discrete}
@@ -10,10 +12,6 @@ use Rattle.asking.specs.Laws.Tree.{tree-yes, tree-no, piece-found}
 use borrow.Author.Needs.{needs}
 use Rattle.asking.proofs.tree.smallest.Statement.{statement}
 use Rattle.asking.proofs.tree.smallest.Tie as tie
-use Rattle.asking.proofs.tree.smallest.Reads as reads
-use Rattle.asking.proofs.tree.smallest.Lts as lts
-use Rattle.asking.proofs.tree.root.Reads as root-reads
-use Rattle.tables.proofs.is_above.Reads as is-above-reads
 
 abbrev Inv-loop : tie.InvT-loop
 Inv-loop frag n v top u₀ u = (u ≤ v) × ((j : ℕ) → j < u → rootOf (forestIn n frag) j ≡ rootOf (forestIn n frag) v → ⊥)
@@ -21,23 +19,9 @@ Inv-loop frag n v top u₀ u = (u ≤ v) × ((j : ℕ) → j < u → rootOf (for
 abbrev μ-loop : tie.MeasureT-loop
 μ-loop frag n v top u₀ u = v - u
 
--- src/tree.rt:30:9
-root-requires : tie.Need-root-requires Inv-loop μ-loop
-root-requires c κs = search needs
-
--- src/tree.rt:32:5
 loop-holds : tie.Need-loop-holds Inv-loop μ-loop
 loop-holds c = (omega arith, λ j l. absurd (omega arith))
 
--- src/tree.rt:32:12
-is-above-requires : tie.Need-is-above-requires Inv-loop μ-loop
-is-above-requires c κs = search needs
-
--- src/tree.rt:33:9
-add-u : tie.Need-add-u Inv-loop μ-loop
-add-u c = search needs
-
--- src/tree.rt:32:5
 -- A fragment that is passed over is not in the tree: so v is not passed before the smallest is found.
 over : (c : tie.Then1 Inv-loop μ-loop) → rootOf (forestIn (c .before .before .before .before .before .args .n) (c .before .before .before .before .before .args .frag .now)) (c .before .before .loop .u) ≡ rootOf (forestIn (c .before .before .before .before .before .args .n) (c .before .before .before .before .before .args .frag .now)) (c .before .before .before .before .before .args .v) → ⊥
 over c =
@@ -54,11 +38,9 @@ not-yet c = elim (ℕ-discrete (c .before .before .loop .u) (c .before .before .
 loop-less : tie.Need-loop-less Inv-loop μ-loop
 loop-less c = omega (arith, not-yet c)
 
--- src/tree.rt:32:5
 loop-again : tie.Need-loop-again Inv-loop μ-loop
 loop-again c = (omega (arith, not-yet c), below-more _ _ (c .before .before .loop .inv .1) (over c))
 
--- src/tree.rt:26:1
 returns : tie.Need-returns Inv-loop μ-loop
 returns c =
     let l = c .before .before .loop in
@@ -72,10 +54,10 @@ smallest-spec =
     (tie.spec
     Inv-loop
     μ-loop
-    root-requires
+    (λ c κs. search needs)
     loop-holds
-    is-above-requires
-    add-u
+    (λ c κs. search needs)
+    (λ c. search needs)
     loop-less
     loop-again
     returns)
