@@ -1,10 +1,8 @@
 // Whether a fragment is cut: by its children, which stand one behind the other in its range of turns.
 ghost use mathlib.Core.Path.{_≡_};
-ghost use mathlib.Core.Bool.{_&&_};
 ghost use Prim.Native.Nat.{_<_};
 ghost use lib.Dec.{leb};
 ghost use Rattle.rules.specs.Search.{count, some};
-ghost use Rattle.rules.specs.Tables.{lev};
 ghost use Rattle.rules.specs.Reading.{childOf, cut};
 ghost use Rattle.state.specs.Layout.{forestIn};
 ghost use Rattle.testing.specs.Whole.{Numbered};

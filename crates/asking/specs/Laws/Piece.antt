@@ -6,7 +6,7 @@ use mathlib.Core.Bool.{Bool, true, false}
 use mathlib.Core.List.{List}
 use native.Mathlib.Omega.{arith}
 use lib.Dec.{T, leb}
-use lib.ListN.{length, getD, take, drop, length-take, length-drop}
+use lib.ListN.{length, take, drop, length-take, length-drop}
 use lib.Seq.{ext-getD, getD-take, getD-drop}
 use Rattle.base.specs.Pick.{pick, tests}
 use Rattle.base.specs.Truth.{T-dec, T-true, T-false, true-T, false-T}
@@ -25,7 +25,7 @@ use Rattle.state.specs.declared.Stage.{Stage}
 use Rattle.state.specs.declared.Stage.the-variants.{Building, Built, Reading, Read}
 use Rattle.testing.specs.Test.{headButLinks}
 use Rattle.testing.specs.Whole.{Whole, Numbered}
-use Rattle.testing.specs.Laws.Head.{Passed, head-known, head-is, head-passed}
+use Rattle.testing.specs.Laws.Head.{head-known, head-is, head-passed}
 use Rattle.testing.specs.Laws.Whole.{passed-whole, passed-numbered}
 use Rattle.numbering.specs.Numbering.{numbered, numberedIn}
 use Rattle.numbering.specs.Order.{Only, Blank}

@@ -1,8 +1,8 @@
 -- Laws of the walks over the turns of those below a fragment: its reach, and its children.
 -- Assumes nothing.
-use Prim.Native.Nat.{ℕ, suc, _+_, _≤_, _<_, min}
-use mathlib.Core.Path.{_≡_, refl, sym, ap, _∙_, subst}
-use mathlib.Core.Bool.{true, false, _&&_}
+use Prim.Native.Nat.{ℕ, _+_, _≤_, _<_, min}
+use mathlib.Core.Path.{_≡_, refl, sym, ap, _∙_}
+use mathlib.Core.Bool.{true, false}
 use mathlib.Core.Logic.{inl, inr, _≢_}
 use native.Mathlib.Omega.{arith}
 use native.Mathlib.Decide.{ℕ-discrete, decLt, decLe}
@@ -15,7 +15,7 @@ use Rattle.rules.specs.Search.{count, some}
 use Rattle.rules.specs.Tables.{Tables, par, lev}
 use Rattle.rules.specs.Reading.{above, lowest, reach, childOf, cut}
 use Rattle.rules.specs.Numbers.{turn, end, atTurn}
-use Rattle.rules.specs.Laws.Search.{some-intro, some-elim, least-default, least-le, least-hit, count-two, two-count}
+use Rattle.rules.specs.Laws.Search.{some-intro, some-elim, least-le, least-hit, count-two, two-count}
 use Rattle.rules.specs.Laws.Up.{up-in, up-over, over-refl, over-same, level-arrives, child-lev}
 use Rattle.rules.specs.Laws.Reading.{above-test, child-facts}
 use Rattle.rules.specs.Laws.Numbers.{turn-one, at-turn, turn-at, above-range, turn-end, child-turn, root-end, over-turn, next-child, first-child}

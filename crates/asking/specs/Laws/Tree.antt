@@ -1,13 +1,13 @@
 -- Laws of the search for the root of a fragment's tree, and for the smallest fragment of it.
 -- Assumes nothing.
 use Prim.Native.Nat.{ℕ, _-_, _≤_, _<_}
-use mathlib.Core.Path.{_≡_, refl, sym, ap, _∙_}
+use mathlib.Core.Path.{_≡_, sym, ap, _∙_}
 use mathlib.Core.Bool.{Bool, true, false}
 use mathlib.Core.List.{List}
 use mathlib.Core.Logic.{inl, inr, _↔_}
 use native.Mathlib.Omega.{arith}
 use native.Mathlib.Decide.{ℕ-discrete, decLt}
-use lib.Dec.{T, eqb, eqb→eq}
+use lib.Dec.{T, eqb→eq}
 use Rattle.base.specs.Truth.{true-T, false-T, eq→eqb}
 use Rattle.rules.specs.Forest.{up, Levels, Over}
 use Rattle.rules.specs.Search.{first}
@@ -25,7 +25,7 @@ use Rattle.asking.specs.Tree.{Top}
 
 module _ (n : ℕ) (t : Tables) (L : Levels n (par t) (lev t)) where
   -- A root is above exactly those of its tree.
-  pub root-above : (r u : ℕ) → r < n → u < n → par t r ≡ r → T (above t r u) ↔ (rootOf t u ≡ r)
+  root-above : (r u : ℕ) → r < n → u < n → par t r ≡ r → T (above t r u) ↔ (rootOf t u ≡ r)
   unfolding rootOf
   root-above r u hr hu e = (
     (λ a.
