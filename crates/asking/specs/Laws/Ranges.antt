@@ -35,7 +35,6 @@ module _ (n : ℕ) (t : Tables) (L : Levels n (par t) (lev t)) where
     pub reach-starts : (i x : ℕ) → i ≡ turn n t v + 1 → x ≡ lowest t v → Reached n t v i x
     reach-starts i x ei ex = record {
       behind = omega arith;
-      within = omega (arith, turn-end n t L v h);
       most = λ u k a l.
           let e : turn n t u ≡ turn n t v = omega (arith, above-range n t L v u h k .0 a) in
           rw (turn-one n t L u v k h e, ex) (omega arith);
@@ -49,7 +48,6 @@ module _ (n : ℕ) (t : Tables) (L : Levels n (par t) (lev t)) where
         let a : T (above t v w) = above-range n t L v w h k .1 (omega (arith, R .behind), omega arith) in
         record {
           behind = omega (arith, R .behind);
-          within = omega arith;
           most = λ u ku au lu. elim (ℕ-discrete (turn n t u) i) [
             | yes q ↦ let z : u ≡ w = turn-one n t L u w ku k (q ∙ sym et) in rw z (omega arith)
             | no q ↦ omega (arith, R .most u ku au (omega arith))
@@ -106,8 +104,6 @@ module _ (n : ℕ) (t : Tables) (L : Levels n (par t) (lev t)) where
     -- The walk over the children, one child at a time.
     pub walk-starts : (i : ℕ) → i ≡ turn n t v + 1 → Walked n t v i
     walk-starts i e = record {
-      behind = omega arith;
-      within = omega (arith, turn-end n t L v h);
       later = λ c k x. omega (arith, child-range c k (shut-child c x));
       next = λ l. elim (first-child n t L v h) [
         | inl q ↦ absurd (omega arith)
@@ -132,11 +128,7 @@ module _ (n : ℕ) (t : Tables) (L : Levels n (par t) (lev t)) where
       unfolding shut
       walk-on g j ej =
           let (k, e, x) = walk-child in
-          let (p, q) = child-range c k x in
-          let m = turn-end n t L c k in
           record {
-            behind = omega arith;
-            within = omega arith;
             later = λ d kd s.
                 let r : i ≤ turn n t d = W .later d kd s in
                 let y : T (childOf t v d) = and-l (childOf t v d) _ s in
