@@ -20,6 +20,7 @@ pub use sections::better_note;
 pub use sections::end_at;
 pub use sections::is_above;
 pub use sections::level_of;
+pub use sections::low_of;
 pub use sections::mark_at;
 pub use sections::note_at;
 pub use sections::parent_at;

@@ -4,6 +4,7 @@ ghost use mathlib.Core.Path.{_≡_};
 ghost use lib.ListN.{getD};
 ghost use Rattle.rules.specs.Tables.{parentOf, rank, noteOf, markOf, par, lev};
 ghost use Rattle.rules.specs.Building.{better};
+ghost use Rattle.rules.specs.Reading.{lowest};
 ghost use Rattle.state.specs.Layout.{section, forestIn, turnIn, endIn, whoseIn, aboveIn, Says};
 use state::wide;
 
@@ -96,6 +97,18 @@ pub fn level_of(frag: &[u32], n: usize, v: usize) -> usize
         return 0;
     }
     rank - 1
+}
+
+// The least of a fragment's own level and the levels that it noted.
+pub fn low_of(frag: &[u32], n: usize, v: usize) -> usize
+    ensures { λ r. ⌜ r ≡ lowest (forestIn n (now (frag .entry))) v ⌝ }
+{
+    let own = level_of(frag, n, v);
+    let note = note_at(frag, n, v);
+    if own <= note {
+        return 0;
+    }
+    own - note
 }
 
 // The turn of v in depth-first order.

@@ -10,8 +10,9 @@ use lib.Dec.{ltb}
 use borrow.Author.Tests.{lt-ltb}
 use lib.ListN.{length, getD, length-take, length-drop, List·getD-eq-default}
 use Rattle.base.specs.Pick.{pick-all, tests}
-use Rattle.rules.specs.Tables.{Tables, rank, parentOf, placed, par, lev}
+use Rattle.rules.specs.Tables.{Tables, rank, parentOf, noteOf, placed, par, lev}
 use Rattle.rules.specs.Building.{better}
+use Rattle.rules.specs.Reading.{lowest}
 use Rattle.state.specs.Layout.{section, turnIn, endIn, aboveIn, linkIn, heldLink, Says}
 use Rattle.state.specs.Laws.Layout.{section-at}
 
@@ -47,6 +48,11 @@ module _ (t : Tables) (v r : ℕ) (er : r ≡ rank t v) where
   pub level-is : (l : ℕ) → l ≡ pred r → l ≡ lev t v
   unfolding lev
   level-is l e = rw (← er, e)
+
+-- The least level that it noted.
+pub low-note : (t : Tables) (v own note r : ℕ) → own ≡ lev t v → note ≡ noteOf t v → r ≡ own - note → r ≡ lowest t v
+unfolding lowest
+low-note t v own note r e g k = rw (k, e, g)
 
 -- By their turns.
 module _ (n : ℕ) (f : List ℕ) (a b x y : ℕ) (ex : x ≡ turnIn n f a) (ey : y ≡ turnIn n f b) where
