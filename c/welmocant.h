@@ -17,7 +17,7 @@
  *   - while a call runs nobody else writes in what is lent to it: no other thread, no device, and no file that is mapped into memory.
  *
  * Threads: nothing is kept between calls and there is no shared state. Calls on different states may run at once. Of one state one call may
- * run at a time, but several questions may whose tables are const here, while nothing writes in them; welmocant_cut writes in frag.
+ * run at a time, but several questions may whose tables are const here, while nothing writes in them; welmocant_piece writes in frag.
  *
  * Memory: nothing is allocated. Of the C library only memset and memcpy are used. Stack: under 5 KB for welmocant_tell, under 4 KB for
  * welmocant_close, under 1.2 KB for any other call; docs/LINKING.md has the figures.
@@ -87,10 +87,12 @@ uint32_t welmocant_open_reading(uint32_t *state, size_t states, uint32_t *frag, 
 /* In Built, Reading and Read. */
 uint32_t welmocant_parent(const uint32_t *state, size_t states, const uint32_t *frag, size_t frags, const uint32_t *held, size_t helds, uint32_t v, uint64_t *answer);
 uint32_t welmocant_level(const uint32_t *state, size_t states, const uint32_t *frag, size_t frags, const uint32_t *held, size_t helds, uint32_t v, uint64_t *answer);
-uint32_t welmocant_piece(const uint32_t *state, size_t states, const uint32_t *frag, size_t frags, const uint32_t *held, size_t helds, uint32_t v, uint64_t *answer);
 
-/* In Read: 1 or 0. welmocant_cut uses scratch words of frag and clears them again. */
-uint32_t welmocant_cut(const uint32_t *state, size_t states, uint32_t *frag, size_t frags, const uint32_t *held, size_t helds, uint32_t v, uint64_t *answer);
+/* In Built, Reading and Read. In Built it uses scratch words of frag and clears them again. */
+uint32_t welmocant_piece(const uint32_t *state, size_t states, uint32_t *frag, size_t frags, const uint32_t *held, size_t helds, uint32_t v, uint64_t *answer);
+
+/* In Read: 1 or 0. */
+uint32_t welmocant_cut(const uint32_t *state, size_t states, const uint32_t *frag, size_t frags, const uint32_t *held, size_t helds, uint32_t v, uint64_t *answer);
 uint32_t welmocant_sole(const uint32_t *state, size_t states, const uint32_t *frag, size_t frags, const uint32_t *held, size_t helds, uint32_t a, uint32_t b, uint64_t *answer);
 
 /* Telling a list file: what was read is told, and the answer says what to do next. A telling is WELMOCANT_TELLING words: the first

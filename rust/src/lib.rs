@@ -31,8 +31,8 @@ mod c {
         pub fn welmocant_close(state: *mut u32, states: usize, frag: *mut u32, frags: usize, held: *mut u32, helds: usize, ending: *mut u64) -> u32;
         pub fn welmocant_parent(state: *const u32, states: usize, frag: *const u32, frags: usize, held: *const u32, helds: usize, v: u32, answer: *mut u64) -> u32;
         pub fn welmocant_level(state: *const u32, states: usize, frag: *const u32, frags: usize, held: *const u32, helds: usize, v: u32, answer: *mut u64) -> u32;
-        pub fn welmocant_piece(state: *const u32, states: usize, frag: *const u32, frags: usize, held: *const u32, helds: usize, v: u32, answer: *mut u64) -> u32;
-        pub fn welmocant_cut(state: *const u32, states: usize, frag: *mut u32, frags: usize, held: *const u32, helds: usize, v: u32, answer: *mut u64) -> u32;
+        pub fn welmocant_piece(state: *const u32, states: usize, frag: *mut u32, frags: usize, held: *const u32, helds: usize, v: u32, answer: *mut u64) -> u32;
+        pub fn welmocant_cut(state: *const u32, states: usize, frag: *const u32, frags: usize, held: *const u32, helds: usize, v: u32, answer: *mut u64) -> u32;
         pub fn welmocant_sole(state: *const u32, states: usize, frag: *const u32, frags: usize, held: *const u32, helds: usize, a: u32, b: u32, answer: *mut u64) -> u32;
         pub fn welmocant_begin(k: u32, telling: *mut u32, tellings: usize) -> u32;
         pub fn welmocant_tell(telling: *mut u32, tellings: usize, frag: *mut u32, frags: usize, held: *mut u32, helds: usize, buffer: *mut u8, bytes: usize, text: *mut u8, texts: usize, heard: usize) -> u32;
@@ -174,19 +174,20 @@ impl Forest {
         answered(number, answer).map(|x| x as u32)
     }
 
-    pub fn piece(&self, v: u32) -> Result<u32, Refusal> {
+    /// The smallest fragment of v's tree. In Built scratch words are used and cleared again.
+    pub fn piece(&mut self, v: u32) -> Result<u32, Refusal> {
         let mut answer = 0;
         let number = unsafe {
-            c::welmocant_piece(self.state.as_ptr(), STATE, self.frag.as_ptr(), self.frag.len(), self.held.as_ptr(), self.held.len(), v, &mut answer)
+            c::welmocant_piece(self.state.as_ptr(), STATE, self.frag.as_mut_ptr(), self.frag.len(), self.held.as_ptr(), self.held.len(), v, &mut answer)
         };
         answered(number, answer).map(|x| x as u32)
     }
 
-    /// Whether v is a cut fragment. Scratch words are used and cleared again.
-    pub fn cut(&mut self, v: u32) -> Result<bool, Refusal> {
+    /// Whether v is a cut fragment.
+    pub fn cut(&self, v: u32) -> Result<bool, Refusal> {
         let mut answer = 0;
         let number = unsafe {
-            c::welmocant_cut(self.state.as_ptr(), STATE, self.frag.as_mut_ptr(), self.frag.len(), self.held.as_ptr(), self.held.len(), v, &mut answer)
+            c::welmocant_cut(self.state.as_ptr(), STATE, self.frag.as_ptr(), self.frag.len(), self.held.as_ptr(), self.held.len(), v, &mut answer)
         };
         answered(number, answer).map(|x| x == 1)
     }

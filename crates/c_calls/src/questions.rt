@@ -55,12 +55,12 @@ pub extern "C" fn welmocant_level(
 #[no_mangle]
 pub extern "C" fn welmocant_piece(
     state: &[u32],
-    frag: &[u32],
+    frag: &mut [u32],
     held: &[u32],
     v: u32,
     answer: &mut u64,
 ) -> u32
-    ensures { λ r. ⌜ reply r (now (answer .exit)) ≡ cPiece (now (state .entry)) (now (frag .entry)) (now (held .entry)) v ⌝ }
+    ensures { λ r. ⌜ (reply r (now (answer .exit)) ≡ cPiece (now (state .entry)) (now (frag .entry)) (now (held .entry)) v) × (now (frag .exit) ≡ now (frag .entry)) ⌝ }
 {
     if state.len() < STATE {
         *answer = 0;
@@ -74,12 +74,12 @@ pub extern "C" fn welmocant_piece(
 #[no_mangle]
 pub extern "C" fn welmocant_cut(
     state: &[u32],
-    frag: &mut [u32],
+    frag: &[u32],
     held: &[u32],
     v: u32,
     answer: &mut u64,
 ) -> u32
-    ensures { λ r. ⌜ (reply r (now (answer .exit)) ≡ cCut (now (state .entry)) (now (frag .entry)) (now (held .entry)) v) × (now (frag .exit) ≡ now (frag .entry)) ⌝ }
+    ensures { λ r. ⌜ reply r (now (answer .exit)) ≡ cCut (now (state .entry)) (now (frag .entry)) (now (held .entry)) v ⌝ }
 {
     if state.len() < STATE {
         *answer = 0;

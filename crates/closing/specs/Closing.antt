@@ -14,6 +14,7 @@ use Rattle.rules.specs.Building.{Walk, pieces, member, noted, topOf, hang, walk
 use Rattle.rules.specs.Laws.Facts.{Standing, Ready, Underway}
 use Rattle.state.specs.Layout.{heldLinks, wiped, words, stored, section, forestIn, fragOf}
 use Rattle.state.specs.Test.{allZero, endsFit}
+use Rattle.state.specs.declared.Stage.the-variants.{Building}
 use Rattle.closing.specs.Arranged.{Arranged, Frame}
 use Rattle.closing.specs.Arranging.{nextOr}
 use Rattle.pieces.specs.Gathered.{heldTables, withPieces}
@@ -234,7 +235,7 @@ pub record Prepares (n c : ℕ) (f h f′ h′ : List ℕ) : Type 0 where
 
 pub record EndsPass (n c : ℕ) (f h f′ h′ : List ℕ) : Type 0 where
   pub same-long : length f′ ≡ length f
-  pub frag : f′ ≡ fragOf n (closeBuilding n (heldTables n c f h)) f
+  pub frag : f′ ≡ fragOf Building n (closeBuilding n (heldTables n c f h)) f
   pub held : h′ ≡ wiped 0 c h
 
 -- The pieces of the held links stand in scratch, over a table whose pass ends.

@@ -60,9 +60,9 @@ pub record NotesLost (s : State) (f h : List ℕ) (s′ : State) (f′ h′ : Li
   pub was-reading : T (isReading (s .stage))
   -- 'The entry count becomes 0 at .. refusal 9'
   pub state-after : s′ ≡ moved Built (s .passes) 0 (clearNotes (s .n) (tablesIn s f h)) s
-  -- of the words that hold the tables, notes and marks are cleared; parents, levels and every other word stay
-  pub frag-before : f ≡ fragOf (s .n) (tablesIn s f h) f
-  pub frag-after : f′ ≡ fragOf (s .n) (clearNotes (s .n) (tablesIn s f h)) f
+  -- of the words that hold the tables, notes and marks are cleared, and the numbers with the stage; parents, levels and every other word stay
+  pub frag-before : f ≡ fragOf (s .stage) (s .n) (tablesIn s f h) f
+  pub frag-after : f′ ≡ fragOf Built (s .n) (clearNotes (s .n) (tablesIn s f h)) f
   pub held-after : h′ ≡ h
 
 -- No call at a moment is refused with x.

@@ -68,7 +68,7 @@ level-answered κs a r e l = record { answer = r; promise = l }
 
 abbrev pub piece-answered : (κs : Lfts 2) (a : ArgsD piece.signature κs) (r : ResD piece.signature κs) (e : AtExit (endedOf 2 piece-kinds.ps piece-kinds.r) κs) → piece-reads.Learnt κs a r e
     → PieceAnswer (a .0) (now (a .1 .0)) (now (a .1 .1 .0)) (a .1 .1 .1 .0)
-piece-answered κs a r e l = record { answer = r; promise = l }
+piece-answered κs a r e l = record { answer = r; frag = now (e .1 .0); promise = l }
 
 abbrev pub sole-answered : (κs : Lfts 2) (a : ArgsD sole.signature κs) (r : ResD sole.signature κs) (e : AtExit (endedOf 2 sole-kinds.ps sole-kinds.r) κs) → sole-reads.Learnt κs a r e
     → SoleAnswer (a .0) (now (a .1 .0)) (now (a .1 .1 .0)) (a .1 .1 .1 .0) (a .1 .1 .1 .1 .0)
@@ -76,4 +76,4 @@ sole-answered κs a r e l = record { answer = r; promise = l }
 
 abbrev pub cut-answered : (κs : Lfts 2) (a : ArgsD cut.signature κs) (r : ResD cut.signature κs) (e : AtExit (endedOf 2 cut-kinds.ps cut-kinds.r) κs) → cut-reads.Learnt κs a r e
     → CutAnswer (a .0) (now (a .1 .0)) (now (a .1 .1 .0)) (a .1 .1 .1 .0)
-cut-answered κs a r e l = record { answer = r; frag = now (e .1 .0); promise = l }
+cut-answered κs a r e l = record { answer = r; promise = l }

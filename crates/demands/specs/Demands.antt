@@ -40,11 +40,11 @@ use Rattle.state.specs.declared.Started.the-variants.{Ready, Refused as Unstart
 use Rattle.state.specs.declared.Taken.the-variants.{Refused as Untaken}
 use Rattle.state.specs.declared.Closed.the-variants.{False, Refused as Unclosed}
 use Rattle.state.specs.declared.Asked.the-variants.{Number}
-use Rattle.demands.specs.Promises.{Asks, StartAnswer, AdoptAnswer, TakeAnswer, OpenAnswer, CloseAnswer, CutAnswer, goesOn, endsBuilding, endsRead, endsFalse, changes}
+use Rattle.demands.specs.Promises.{Asks, StartAnswer, AdoptAnswer, TakeAnswer, OpenAnswer, CloseAnswer, PieceAnswer, goesOn, endsBuilding, endsRead, endsFalse, changes}
 use Rattle.demands.specs.Run.{Origin, start, adopt, Call, close, Moment, Answered, next, TakeAt, CloseAt, OpenAt, ParentAt, LevelAt, PieceAt, SoleAt, CutAt, BeginAnswer, Run, begins, goes, calls, closesIn, acceptedCloses, fragments, tablesOf, tablesAt}
 use Rattle.demands.specs.Course.{Adds, PassTells, AllTell, buildCalls, readCalls}
 use Rattle.demands.specs.Claims.{InBuilding, InReading, InRead, Gives, Leading, StepsToRoot, NotesLost, Never, Truly, Alike, Finished}
-use Rattle.demands.specs.Laws.Answered.{begun-refused, begun-given, begun-number, taken-refused, taken-on, begun-exists, asked-exists, sole-exists, cut-exists}
+use Rattle.demands.specs.Laws.Answered.{begun-refused, begun-given, begun-number, taken-refused, taken-on, begun-exists, asked-exists, sole-exists, piece-exists, cut-exists}
 use Rattle.demands.specs.Laws.Refusals.{take-unchanged, open-unchanged, adopt-good, adopt-ten}
 use Rattle.demands.specs.Laws.Runs.{run-holds}
 use Rattle.demands.specs.Laws.Results.{accepts-exactly, forest-finished, reads-accepted, below-ceiling, below-more}
@@ -62,9 +62,12 @@ some-begin o f h = begun-exists _
 pub some-call : (m : Moment) (c : Call) → Answered m c
 some-call = some-answer
 
--- (parent, level and piece)
+-- (parent and level)
 pub some-number : (x : Answer ℕ) → Asks x
 some-number = asked-exists
+
+pub some-piece : (m : Moment) (v : ℕ) → PieceAt m v
+some-piece m v = piece-exists (m .state) (m .frag) (m .held) v
 
 pub some-sole : (m : Moment) (u v : ℕ) → SoleAt m u v
 some-sole m u v = sole-exists (m .state) (m .frag) (m .held) u v
@@ -93,9 +96,9 @@ demand-1-start n k f h a r e = let (x, p, q) = begun-refused a r e in let (u, v)
 pub demand-1-adopt : (n k : ℕ) (ps f h : List ℕ) (a : AdoptAnswer n k ps f h) (r : Refusal) → a .answer ≡ Unstarted r → (a .frag ≡ f) × (a .held ≡ h)
 demand-1-adopt n k ps f h a r e = let (x, p, q) = begun-refused a r e in let (u, v) = adopt-keeps n k f h ps .same _ _ x in (p ∙ u, q ∙ v)
 
--- A question changes nothing, whatever it answers: only cut is lent a table to write in.
-pub demand-1-cut : (s : State) (f h : List ℕ) (v : ℕ) (a : CutAnswer s f h v) → a .frag ≡ f
-demand-1-cut s f h v a = a .promise .1
+-- A question changes nothing, whatever it answers: only piece is lent a table to write in.
+pub demand-1-piece : (s : State) (f h : List ℕ) (v : ℕ) (a : PieceAnswer s f h v) → a .frag ≡ f
+demand-1-piece s f h v a = a .promise .1
 
 -- 'only a false reading pass loses its notes' (P8: met-lost.)
 pub demand-1-false : (s : State) (f h : List ℕ) (a : CloseAnswer s f h) (s′ : State) → a .answer ≡ False s′ → NotesLost s f h s′ (a .frag) (a .held)

@@ -13,14 +13,15 @@ use Rattle.numbers.specs.Number.{onto, readGroups, atMost, readUpTo, readNumber
 use Rattle.lists.specs.List.{andThen, placed as placedAt, joins, counts, readEnds, readLink as readLinkAt, before, linksIn, linksAt, blockLinks, writtenLinks}
 use Rattle.rules.specs.Links.{between, linked, tally}
 use Rattle.rules.specs.Forest.{up, depth}
-use Rattle.rules.specs.Search.{count, some, every, first, least, table, listed}
+use Rattle.rules.specs.Search.{count, sum, some, every, first, least, table, listed}
 use Rattle.rules.specs.Tables.{parentOf, rank, noteOf, markOf, placed, par, lev, fresh, place, putNote, putMark, putHeld, putCrossed, cleared}
 use Rattle.rules.specs.Building.{alone, merged, piecesFrom, pieces, member, sizeOf, heldIn, better, noteLink, hold, fill, holdLink, buildLink, buildLinks, noted, topOf, hang, nextOf, reachNext, goBack, walkStep, walkSteps, walked, placePath, lost, placeWalk, placePiece, placeFrom, placePieces, closeBuilding, done, pass, passes}
 use Rattle.rules.specs.Adopting.{rootedIn, adoptable, adopted}
 use Rattle.rules.specs.Reading.{above, hear, readLink, readLinks, seen, accepted, lowest, reach, childOf, soleBelow, sole, cut, rootOf, piece}
 use Rattle.rules.specs.Known.{Instance, build, differ, adopt, Result, reports, refused, row, square, triangle, instances}
-use Rattle.state.specs.Layout.{words, section, linkIn, wordOf, tablesIn, fragOf, heldOf}
-use Rattle.state.specs.Test.{asked, allZero, stageFits, standsAt, forestFits, endsFit, noneTwice, quotaFits, heldFits, noteFits, clearAt, lowFits, notesFit, restZero, countsFit, readFits, markFits, restAgrees, fits, sound}
+use Rattle.rules.specs.Numbers.{below, belowIf, beside, passed, turnAt, turn, end, atTurn}
+use Rattle.state.specs.Layout.{words, storedIn, section, linkIn, wordOf, tablesIn, numbersOf, behind, fragOf, heldOf}
+use Rattle.state.specs.Test.{asked, allZero, stageFits, standsAt, forestFits, endsFit, noneTwice, quotaFits, heldFits, noteFits, clearAt, lowFits, notesFit, restZero, countsFit, readFits, markFits, restAgrees, numberedAt, numbersFit, fits, sound}
 use Rattle.state.specs.Call.{Begun, boundsRefusal, headRefusal, headed, moved, leaves}
 use Rattle.state.specs.Start.{startCall}
 use Rattle.state.specs.Adopt.{adoptRefusal, adoptCall}
@@ -90,5 +91,5 @@ calledResult (adopt ps g) =
 
 -- The rules' whole table, as one.
 pub known-calls : map (λ r. calledResult (r .instance)) instances ≡ map (λ r. r .result) instances
-unfolding pick between linked tally up depth count some every first least table listed parentOf rank noteOf markOf placed par lev fresh place putNote putMark putHeld putCrossed cleared alone merged piecesFrom pieces member sizeOf heldIn better noteLink hold fill holdLink buildLink buildLinks noted topOf hang nextOf reachNext goBack walkStep walkSteps walked placePath lost placeWalk placePiece placeFrom placePieces closeBuilding done pass passes rootedIn adoptable adopted above hear readLink readLinks seen accepted lowest reach childOf soleBelow sole cut rootOf piece row square triangle instances onto readGroups atMost readUpTo readNumber groupsOf writtenNumber andThen placedAt joins counts readEnds readLinkAt before linksIn linksAt blockLinks writtenLinks section linkIn wordOf tablesIn fragOf heldOf asked allZero stageFits standsAt forestFits endsFit noneTwice quotaFits heldFits noteFits clearAt lowFits notesFit restZero countsFit readFits markFits restAgrees fits sound boundsRefusal headRefusal headed moved leaves startCall adoptRefusal adoptCall tell taken takeIn takeCall openCall endBuilding endReading closeIn closeCall askOne askTwo parentCall cutCall soleCall afterTake afterClose afterOpen step opening parentsTo solesTo reportedBy passBy passesBy readBy begunThen calledResult
+unfolding pick between linked tally up depth count some every first least table listed parentOf rank noteOf markOf placed par lev fresh place putNote putMark putHeld putCrossed cleared alone merged piecesFrom pieces member sizeOf heldIn better noteLink hold fill holdLink buildLink buildLinks noted topOf hang nextOf reachNext goBack walkStep walkSteps walked placePath lost placeWalk placePiece placeFrom placePieces closeBuilding done pass passes rootedIn adoptable adopted above hear readLink readLinks seen accepted lowest reach childOf soleBelow sole cut rootOf piece row square triangle instances onto readGroups atMost readUpTo readNumber groupsOf writtenNumber andThen placedAt joins counts readEnds readLinkAt before linksIn linksAt blockLinks writtenLinks sum below belowIf beside passed turnAt turn end atTurn storedIn numbersOf behind section linkIn wordOf tablesIn fragOf heldOf asked allZero stageFits standsAt forestFits endsFit noneTwice quotaFits heldFits noteFits clearAt lowFits notesFit restZero countsFit readFits markFits restAgrees numberedAt numbersFit fits sound boundsRefusal headRefusal headed moved leaves startCall adoptRefusal adoptCall tell taken takeIn takeCall openCall endBuilding endReading closeIn closeCall askOne askTwo parentCall cutCall soleCall afterTake afterClose afterOpen step opening parentsTo solesTo reportedBy passBy passesBy readBy begunThen calledResult
 known-calls = refl

@@ -70,18 +70,19 @@ ParentAnswer s f h v = Asks (parentCall s f h v)
 abbrev pub LevelAnswer : State → List ℕ → List ℕ → ℕ → Type 0
 LevelAnswer s f h v = Asks (levelCall s f h v)
 
-abbrev pub PieceAnswer : State → List ℕ → List ℕ → ℕ → Type 0
-PieceAnswer s f h v = Asks (pieceCall s f h v)
-
 pub record SoleAnswer (s : State) (f h : List ℕ) (a b : ℕ) : Type 0 where
   pub answer : Judged
   pub promise : judgedTold answer ≡ soleCall s f h a b
 
--- but for cut, which is lent the fragment table to write in.
 pub record CutAnswer (s : State) (f h : List ℕ) (v : ℕ) : Type 0 where
   pub answer : Judged
+  pub promise : judgedTold answer ≡ cutCall s f h v
+
+-- but for piece, which is lent the fragment table to write in.
+pub record PieceAnswer (s : State) (f h : List ℕ) (v : ℕ) : Type 0 where
+  pub answer : Asked
   pub frag : List ℕ
-  pub promise : (judgedTold answer ≡ cutCall s f h v) × (frag ≡ f)
+  pub promise : (askedTold answer ≡ pieceCall s f h v) × (frag ≡ f)
 
 -- How a call went. Take and open reading: accepted.
 abbrev pub goesOn : Taken → Bool

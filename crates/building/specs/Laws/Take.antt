@@ -16,13 +16,14 @@ use Rattle.lists.specs.List.{blockLinks, scanBlock}
 use Rattle.lists.specs.Laws.Block.{scan-gives, scan-refuses}
 use Rattle.rules.specs.Tables.{Tables, placed}
 use Rattle.rules.specs.Building.{buildLinks}
-use Rattle.state.specs.Layout.{movedOn, heldLinks, wiped, radix, linkIn, tablesIn, fragOf, heldOf}
+use Rattle.state.specs.Layout.{movedOn, words, heldLinks, wiped, radix, linkIn, tablesIn, fragOf, heldOf}
 use Rattle.state.specs.Test.{isBuilding, allZero, endsFit}
 use Rattle.state.specs.Call.{headRefusal, headed, moved, leaves}
 use Rattle.state.specs.Take.{tell, taken, takeIn}
 use Rattle.state.specs.Answers.{takenTold}
 use Rattle.state.specs.Laws.Lists.{drop-take}
 use Rattle.state.specs.Laws.Layout.{tables-state}
+use Rattle.state.specs.Laws.Behind.{rest, plain-rest, plain-zero}
 use Rattle.state.specs.Laws.Lay.{frag-laid, held-laid}
 use Rattle.state.specs.Laws.Sound.{underway}
 use Rattle.state.specs.declared.State.{State}
@@ -96,6 +97,9 @@ module _ (s : State) (f h block g : List ℕ) (same : g ≡ gatheredIn s f h) (r
     unfolding tablesIn
     held-rising = ends-rising (s .n) (tablesIn s f h) h (s .held) (omega (arith, bounds, found .agrees .held-room)) (found .agrees .ends-fit)
 
+    scratch : T (allZero (rest (s .n) f))
+    scratch = plain-zero (s .stage) (s .n) (tablesIn s f h) f (λ x. (rw stage at x)) (found .back)
+
     tellable : Tellable (s .n) (s .k) (s .held) f h
     tellable = record {
       few-fragments = bounds .fragments;
@@ -106,7 +110,7 @@ module _ (s : State) (f h block g : List ℕ) (same : g ≡ gatheredIn s f h) (r
       underway = rw same-tables (underway s (tablesIn s f h) (found .agrees) (true-T (isBuilding (s .stage)) in-building));
       as-many = rw same-tables (sym (found .agrees .as-many));
       rising = held-rising;
-      blank = found .scratch;
+      blank = scratch;
     }
 
     laid-here : g ≡ withPieces (s .n) (heldLinks (s .held) h) f
@@ -122,7 +126,7 @@ module _ (s : State) (f h block g : List ℕ) (same : g ≡ gatheredIn s f h) (r
     pub take-refused : (number place : ℕ) → refuses number place ≡ scanBlock (s .n) (s .entries) block → (f′ : List ℕ) → f′ ≡ wiped (4 * s .n) (7 * s .n) g → takenTold s (Refused (record { number = number; place = place })) f′ h ≡ takeIn isBuilding s f h block
     unfolding taken
     take-refused number place e f′ w =
-        let back : f′ ≡ f = w ∙ pieces-back (s .n) f g (bounds .frag-long) (found .scratch) (gathers .kept) in
+        let back : f′ ≡ f = w ∙ pieces-back (s .n) f g (bounds .frag-long) scratch (gathers .kept) in
         rw back (rw (scan-refuses (s .n) (s .entries) block (λ z. omega (arith, bounds)) (bounds .fragments) number place (sym e)) at take-on)
 
     -- The state to go on with.
@@ -147,8 +151,10 @@ module _ (s : State) (f h block g : List ℕ) (same : g ≡ gatheredIn s f h) (r
       unfolding tablesIn
       crossed-is = sym (ap (λ x. x .crossed) tables-are)
 
-      frag-is : f′ ≡ fragOf (s .n) t f
-      frag-is = frag-laid (after (length links) held) f f′ h′ t tables-are (omega (arith, bounds, S .frag-length)) (S .blank) (S .frag-past)
+      frag-is : f′ ≡ fragOf (s .stage) (s .n) t f
+      frag-is =
+          let long : words * s .n ≤ length f′ = omega (arith, bounds, S .frag-length) in
+          frag-laid (after (length links) held) f f′ h′ t tables-are long (plain-rest Building (s .n) t f′ (λ x. x) long (S .blank)) (S .frag-past) ∙ ap (λ g. fragOf g (s .n) t f) (sym stage)
 
       held-is : h′ ≡ heldOf (s .n) (s .k) t h
       held-is =

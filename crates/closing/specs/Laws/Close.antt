@@ -20,15 +20,17 @@ use Rattle.rules.specs.Laws.Tables.{SameForest, same-placed, standing-cleared}
 use Rattle.rules.specs.Laws.Links.{linked-nil}
 use Rattle.rules.specs.Laws.Close.{closing}
 use Rattle.rules.specs.Laws.CloseAny.{learnt-shown}
+use lib.Dec.{T}
 use Rattle.state.specs.Layout.{movedOn, wiped, tablesIn, forestIn, fragOf, heldOf}
-use Rattle.state.specs.Test.{isBuilding}
+use Rattle.state.specs.Test.{isBuilding, isNumbered}
 use Rattle.state.specs.Call.{headRefusal, headed, moved, leaves}
 use Rattle.state.specs.Close.{more, whole, endBuilding, closeIn}
 use Rattle.state.specs.Answers.{closedTold}
 use Rattle.state.specs.Laws.Clear.{wiped-is}
 use Rattle.state.specs.Laws.Lists.{zeros, zeros-between}
 use Rattle.state.specs.Laws.Layout.{tables-state}
-use Rattle.state.specs.Laws.Lay.{tables-laid}
+use Rattle.state.specs.Laws.Behind.{plain-zero}
+use Rattle.state.specs.Laws.Lay.{frag-plain, tables-laid}
 use Rattle.state.specs.Laws.Sound.{underway}
 use Rattle.state.specs.declared.State.{State}
 use Rattle.state.specs.declared.Stage.{Stage}
@@ -77,7 +79,7 @@ module _ (s : State) (f h : List ℕ) where
       some = P .bounds .some-fragments;
       wide = record { few = P .bounds .fragments; long = P .bounds .frag-long };
       there = held-within;
-      blank = P .found .scratch;
+      blank = plain-zero (s .stage) (s .n) (tablesIn s f h) f (λ x. (rw (P .stage) at x)) (P .found .back);
       room = s .k;
       underway = rw same-tables on-way;
       ends = rw same-tables (P .found .agrees .ends-fit);
@@ -94,8 +96,8 @@ module _ (s : State) (f h : List ℕ) where
       unfolding closeBuilding
       standing-then = standing-cleared (closing (on-way .standing) (learnt-shown on-way) (s .n) (omega arith) .standing)
 
-      frag-is : f′ ≡ fragOf (s .n) t f
-      frag-is = E .frag ∙ ap (λ (x : Tables). fragOf (s .n) (closeBuilding (s .n) x) f) same-tables
+      frag-is : (g : Stage) → (T (isNumbered g) → ⊥) → f′ ≡ fragOf g (s .n) t f
+      frag-is g b = E .frag ∙ ap (λ (x : Tables). fragOf Building (s .n) (closeBuilding (s .n) x) f) same-tables ∙ frag-plain Building g (s .n) t f (λ x. x) b
 
       held-is : h′ ≡ heldOf (s .n) (s .k) t h
       unfolding closeBuilding cleared heldOf
@@ -104,17 +106,17 @@ module _ (s : State) (f h : List ℕ) where
           let e : b - 0 ≡ b = omega arith in
           E .held ∙ wiped-held (s .held) b h (P .found .agrees .held-room) (P .bounds .held-long) (zeros-between (s .held) b h (P .found .agrees .held-room) (P .bounds .held-long) (P .found .unused)) ∙ rw e
 
-      tables-then : (g : Stage) → tablesIn (ended g) f′ h′ ≡ t
+      tables-then : tablesIn (ended Built) f′ h′ ≡ t
       unfolding closeBuilding cleared
-      tables-then g =
+      tables-then =
           let S = standing-then in
-          rw (frag-is, held-is) (tables-laid (ended g) t f h (S .long-parent) (S .long-level) (S .long-note) (S .long-mark) refl (λ u v l. absurd (linked-nil u v l)) refl)
+          rw (frag-is Built (λ x. x), held-is) (tables-laid (ended Built) t f h (S .long-parent) (S .long-level) (S .long-note) (S .long-mark) refl (λ u v l. absurd (linked-nil u v l)) refl)
 
       done-is : done (s .n) (forestIn (s .n) f′) ≡ done (s .n) t
       unfolding done tablesIn
       done-is =
           let same : SameForest (forestIn (s .n) f′) (tablesIn (ended Built) f′ h′) = record { same-parent = refl; same-level = refl } in
-          ap (λ p. every p (s .n)) (same-placed same ∙ ap placed (tables-then Built))
+          ap (λ p. every p (s .n)) (same-placed same ∙ ap placed tables-then)
 
       moved-is : (g : Stage) → ended g ≡ moved g (suc (s .passes)) 0 t s
       unfolding moved closeBuilding cleared
@@ -126,8 +128,8 @@ module _ (s : State) (f h : List ℕ) where
 
       pub close-done : true ≡ done (s .n) (forestIn (s .n) f′) → closedTold s (Done (ended Built)) f′ h′ ≡ closeIn isBuilding s f h
       unfolding endBuilding leaves moved
-      close-done e = (λ i. record { answer = gives whole; state = moved-is Built i; frag = frag-is i; held = held-is i }) ∙ rw (← done-is, ← e, pick-true) at close-on
+      close-done e = (λ i. record { answer = gives whole; state = moved-is Built i; frag = frag-is Built (λ x. x) i; held = held-is i }) ∙ rw (← done-is, ← e, pick-true) at close-on
 
       pub close-more : false ≡ done (s .n) (forestIn (s .n) f′) → closedTold s (More (ended Building)) f′ h′ ≡ closeIn isBuilding s f h
       unfolding endBuilding leaves moved
-      close-more e = (λ i. record { answer = gives more; state = moved-is Building i; frag = frag-is i; held = held-is i }) ∙ rw (← done-is, ← e, pick-false) at close-on
+      close-more e = (λ i. record { answer = gives more; state = moved-is Building i; frag = frag-is Building (λ x. x) i; held = held-is i }) ∙ rw (← done-is, ← e, pick-false) at close-on

@@ -23,6 +23,8 @@ use Rattle.state.specs.Laws.Clear.{wiped-is, wiped-length}
 use Rattle.state.specs.Laws.Held.{once-made}
 use Rattle.state.specs.Laws.Layout.{section-length, section-at, level-word}
 use Rattle.state.specs.Laws.Lists.{zeros}
+use Rattle.state.specs.Laws.Behind.{behind-plain}
+use Rattle.state.specs.declared.Stage.the-variants.{Building}
 use Rattle.closing.specs.Arranged.{Arrangeable, Arranges}
 use Rattle.closing.specs.Arranging.{nextOr}
 use Rattle.closing.specs.Walk.{Wide}
@@ -82,14 +84,14 @@ take-two n f =
     ap (λ (i : ℕ). take i f) e ∙ take-add n n f ∙ ap (λ (r : List ℕ). take n f ++ take n r) (ap (λ (i : ℕ). drop i f) a) ∙ ap (λ (i : ℕ). take n (drop i f) ++ take n (drop (1 * n) f)) b
 
 -- A table of which all but the forest is cleared.
-cleared-laid : (n c : ℕ) (f₀ f h : List ℕ) → words * n ≤ length f → drop (words * n) f ≡ drop (words * n) f₀ → wiped (2 * n) (words * n) f ≡ fragOf n (cleared n (heldTables n c f h)) f₀
+cleared-laid : (n c : ℕ) (f₀ f h : List ℕ) → words * n ≤ length f → drop (words * n) f ≡ drop (words * n) f₀ → wiped (2 * n) (words * n) f ≡ fragOf Building n (cleared n (heldTables n c f h)) f₀
 unfolding fragOf cleared tablesIn
 cleared-laid n c f₀ f h l e =
     let m : words * n - 2 * n ≡ 14 * n = omega arith in
     rw (wiped-is (2 * n) (words * n) f (omega arith) l, e, take-two n f, m, append-assoc)
     (ap (λ (r : List ℕ). section n 0 f ++ (section n 1 f ++ r))
     (zeros n (13 * n) (14 * n) (drop (words * n) f₀) (omega arith) ∙ ap (λ (r : List ℕ). replicate {A = ℕ} n 0 ++ r)
-    (zeros n (12 * n) (13 * n) (drop (words * n) f₀) (omega arith))))
+    (zeros n (12 * n) (13 * n) (drop (words * n) f₀) (omega arith) ∙ ap (λ (r : List ℕ). replicate {A = ℕ} n 0 ++ (r ++ drop (words * n) f₀)) (sym (behind-plain n (cleared n (heldTables n c f h)) Building (λ x. x))))))
 
 -- The held words, by what the test asks of their links.
 ends-at : (n : ℕ) (t : Tables) (h : List ℕ) (m i : ℕ) → T (endsFit n t (heldLinks m h)) → i < m → m ≤ length h → (getD h i 0 / radix < getD h i 0 % radix) × (getD h i 0 % radix < n)
@@ -268,7 +270,7 @@ module _ (n c : ℕ) (f h : List ℕ) (W : Endable n c f h) (f₁ h₁ : List �
   unfolding closeBuilding
   end-laid f₃ h₃ e g = record {
     same-long = ap length e ∙ wiped-length (2 * n) (words * n) f₂ (omega arith) end-long ∙ long-two;
-    frag = e ∙ cleared-laid n c f f₂ h end-long past-two ∙ ap (λ (t : Tables). fragOf n (cleared n t) f) placed-two;
+    frag = e ∙ cleared-laid n c f f₂ h end-long past-two ∙ ap (λ (t : Tables). fragOf Building n (cleared n t) f) placed-two;
     held = g ∙ held-same;
   }
 

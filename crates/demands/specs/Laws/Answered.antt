@@ -30,7 +30,7 @@ use Rattle.state.specs.declared.Asked.{Asked}
 use Rattle.state.specs.declared.Asked.the-variants.{Number, Refused as Unasked}
 use Rattle.state.specs.declared.Judged.{Judged}
 use Rattle.state.specs.declared.Judged.the-variants.{Yes, No, Refused as Unjudged}
-use Rattle.demands.specs.Promises.{Begins, Takes, Closes, Asks, TakeAnswer, OpenAnswer, CloseAnswer, SoleAnswer, CutAnswer, goesOn, endsBuilding, endsRead, endsFalse}
+use Rattle.demands.specs.Promises.{Begins, Takes, Closes, Asks, TakeAnswer, OpenAnswer, CloseAnswer, PieceAnswer, SoleAnswer, CutAnswer, goesOn, endsBuilding, endsRead, endsFalse}
 use Rattle.demands.specs.Run.{Call, take, close, openReading, Moment, Answered, next, afterTake, afterClose, afterOpen}
 use Rattle.demands.specs.Step.{step}
 use Rattle.demands.specs.Claims.{Gives, Decides}
@@ -271,10 +271,13 @@ close-exists s f h = go (x .answer) refl
           }
     ]
 
--- The questions: parent, level and piece; sole; cut.
+-- The questions: parent and level; piece; sole; cut.
 pub asked-exists : (x : Answer ℕ) → Asks x
 asked-exists (gives v) = record { answer = Number v; promise = refl }
 asked-exists (refuses number place) = record { answer = Unasked (record { number = number; place = place }); promise = refl }
+
+pub piece-exists : (s : State) (f h : List ℕ) (v : ℕ) → PieceAnswer s f h v
+piece-exists s f h v = let a = asked-exists (pieceCall s f h v) in record { answer = a .answer; frag = f; promise = (a .promise, refl) }
 
 judged-exists : (x : Answer Bool) → (a : Judged) × (judgedTold a ≡ x)
 judged-exists (gives true) = (Yes, refl)
@@ -285,4 +288,4 @@ pub sole-exists : (s : State) (f h : List ℕ) (u v : ℕ) → SoleAnswer s f h 
 sole-exists s f h u v = let (a, p) = judged-exists (soleCall s f h u v) in record { answer = a; promise = p }
 
 pub cut-exists : (s : State) (f h : List ℕ) (v : ℕ) → CutAnswer s f h v
-cut-exists s f h v = let (a, p) = judged-exists (cutCall s f h v) in record { answer = a; frag = f; promise = (p, refl) }
+cut-exists s f h v = let (a, p) = judged-exists (cutCall s f h v) in record { answer = a; promise = p }

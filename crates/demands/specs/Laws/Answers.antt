@@ -37,6 +37,10 @@ read-settled Built r b = b
 read-settled Reading r b = b
 read-settled Read r b = b
 
+-- What piece answers is a number asked for.
+number-of : {s : State} {f h : List ℕ} {v : ℕ} → PieceAnswer s f h v → Asks (pieceCall s f h v)
+number-of a = record { answer = a .answer; promise = a .promise .0 }
+
 other-met : {A : Type 0} (x : Answer A) (number place : ℕ) → Only Other x → x ≡ refuses number place → number ≢ 11
 other-met x number place o e = subst (Only Other) e o
 
@@ -59,7 +63,7 @@ module _ {o : Origin} {m : Moment} (H : Holds o m) where
     open-never = λ a r e. other-met _ _ _ (open-only s f h (H .tested)) (taken-refused a r e .0);
     parent-never = λ v a r e. other-met _ _ _ (one-only s f h (H .tested) asks (parentOf (tablesAt m) v) v) (asked-refused a r e);
     level-never = λ v a r e. other-met _ _ _ (one-only s f h (H .tested) asks (lev (tablesAt m) v) v) (asked-refused a r e);
-    piece-never = λ v a r e. other-met _ _ _ (one-only s f h (H .tested) asks (piece (s .n) (tablesAt m) v) v) (asked-refused a r e);
+    piece-never = λ v a r e. other-met _ _ _ (one-only s f h (H .tested) asks (piece (s .n) (tablesAt m) v) v) (asked-refused (number-of a) r e);
     cut-never = λ v a r e. other-met _ _ _ (one-only s f h (H .tested) isRead (cut (s .n) (tablesAt m) v) v) (judged-refused (a .answer) (a .promise .0) r e);
     sole-never = λ u v a r e. other-met _ _ _ (two-only s f h (H .tested) isRead (sole (s .n) (tablesAt m) u v) u v) (judged-refused (a .answer) (a .promise) r e);
   }
@@ -100,7 +104,7 @@ module _ {o : Origin} {m : Moment} (H : Holds o m) where
 
     pub truly-at : Truly (fragments o) m
     truly-at = record {
-      piece-true = λ v l a. asked-gives (Piece (m .telling) v) a _ (piece-asked settled-at v l) (piece-removes H settled-at accepted-at v l);
+      piece-true = λ v l a. asked-gives (Piece (m .telling) v) (number-of a) _ (piece-asked settled-at v l) (piece-removes H settled-at accepted-at v l);
       sole-true = λ u v l i d a. judged-decides (a .answer) _ (a .promise ∙ sole-asked u v l i d) (sole-removes H settled-at accepted-at u v l i);
       cut-true = λ v l a. judged-decides (a .answer) _ (a .promise .0 ∙ cut-asked v l) (cut-removes H settled-at accepted-at v l);
     }
@@ -123,7 +127,7 @@ module _ {o : Origin} {m : Moment} (H : Holds o m) where
 
 -- Pieces where every pass told one set.
 pub answers-piece : {n k : ℕ} {m : Moment} → Holds (start n k) m → (InBuilding m → ⊥) → (E : Links) → Each (Tells E) (m .told) → (v : ℕ) → v < n → (a : PieceAt m v) → Gives (PieceIn E v) (a .answer)
-answers-piece H b E e v l a = asked-gives (PieceIn E v) a _ (piece-asked H b v l) (pieces-finished H b E e v l)
+answers-piece H b E e v l a = asked-gives (PieceIn E v) (number-of a) _ (piece-asked H b v l) (pieces-finished H b E e v l)
 
 -- Two runs that read one set answer alike.
 module _ {o q : Origin} {m w : Moment} (H : Holds o m) (K : Holds q w) (even : fragments o ≡ fragments q) (same : SameSet (m .telling) (w .telling)) (r : InRead m) (z : InRead w) where
@@ -153,7 +157,7 @@ module _ {o q : Origin} {m w : Moment} (H : Holds o m) (K : Holds q w) (even : f
 
   pub alike-at : Alike m w
   alike-at = record {
-    pieces-alike = λ v a b. asked-decided _ (a .answer) (b .answer) (a .promise ∙ pieces-told v) (b .promise);
+    pieces-alike = λ v a b. asked-decided _ (a .answer) (b .answer) (a .promise .0 ∙ pieces-told v) (b .promise .0);
     soles-alike = λ u v a b. judged-decided _ (a .answer) (b .answer) (a .promise ∙ soles-told u v) (b .promise);
     cuts-alike = λ v a b. judged-decided _ (a .answer) (b .answer) (a .promise .0 ∙ cuts-told v) (b .promise .0);
   }

@@ -16,14 +16,15 @@ use Rattle.lists.specs.Laws.Link.{never-both}
 use Rattle.rules.specs.Links.{between, linked, tally, SameSet, Tells, Each}
 use Rattle.rules.specs.Removal.{PieceIn, Sole}
 use Rattle.rules.specs.Forest.{up, depth, DepthFirst}
-use Rattle.rules.specs.Search.{count, some, every, first, least, table, listed}
+use Rattle.rules.specs.Search.{count, sum, some, every, first, least, table, listed}
 use Rattle.rules.specs.Tables.{parentOf, rank, noteOf, markOf, placed, par, lev, fresh, place, putNote, putMark, putHeld, putCrossed, cleared}
 use Rattle.rules.specs.Building.{alone, merged, piecesFrom, pieces, member, sizeOf, heldIn, better, noteLink, hold, fill, holdLink, buildLink, buildLinks, noted, topOf, hang, nextOf, reachNext, goBack, walkStep, walkSteps, walked, placePath, lost, placeWalk, placePiece, placeFrom, placePieces, closeBuilding, done}
 use Rattle.rules.specs.Adopting.{parentIn, rootedIn, adoptable, adopted}
 use Rattle.rules.specs.Reading.{above, hear, readLink, readLinks, seen, accepted, lowest, reach, childOf, soleBelow, sole, cut, rootOf, piece}
 use Rattle.rules.specs.Known.{square, triangle}
-use Rattle.state.specs.Layout.{words, section, linkIn, wordOf, tablesIn, fragOf, heldOf}
-use Rattle.state.specs.Test.{asked, allZero, stageFits, standsAt, forestFits, endsFit, noneTwice, quotaFits, heldFits, noteFits, clearAt, lowFits, notesFit, restZero, countsFit, readFits, markFits, restAgrees, fits, sound}
+use Rattle.rules.specs.Numbers.{below, belowIf, beside, passed, turnAt, turn, end, atTurn}
+use Rattle.state.specs.Layout.{words, storedIn, section, linkIn, wordOf, tablesIn, numbersOf, behind, fragOf, heldOf}
+use Rattle.state.specs.Test.{asked, allZero, stageFits, standsAt, forestFits, endsFit, noneTwice, quotaFits, heldFits, noteFits, clearAt, lowFits, notesFit, restZero, countsFit, readFits, markFits, restAgrees, numberedAt, numbersFit, fits, sound}
 use Rattle.state.specs.Call.{boundsRefusal, headRefusal, headed, moved, leaves}
 use Rattle.state.specs.Start.{started, startCall}
 use Rattle.state.specs.Adopt.{adoptedState, adoptRefusal, adoptCall}
@@ -115,7 +116,7 @@ record Computed : Type 0 where
   false-close : closeAt p8-reading .answer ≡ refuses 9 0
 
 computed : Computed
-unfolding pick between linked tally up depth count some every first least table listed parentOf rank noteOf markOf placed par lev fresh place putNote putMark putHeld putCrossed cleared alone merged piecesFrom pieces member sizeOf heldIn better noteLink hold fill holdLink buildLink buildLinks noted topOf hang nextOf reachNext goBack walkStep walkSteps walked placePath lost placeWalk placePiece placeFrom placePieces closeBuilding done rootedIn adoptable adopted above hear readLink readLinks seen accepted lowest reach childOf soleBelow sole cut rootOf piece square triangle onto readGroups atMost readUpTo readNumber groupsOf writtenNumber andThen placedAt joins counts readEnds readLinkAt before linksIn linksAt blockLinks writtenLinks section linkIn wordOf tablesIn fragOf heldOf asked allZero stageFits standsAt forestFits endsFit noneTwice quotaFits heldFits noteFits clearAt lowFits notesFit restZero countsFit readFits markFits restAgrees fits sound boundsRefusal headRefusal headed moved leaves startCall adoptRefusal adoptCall tell taken takeIn takeCall openCall endBuilding endReading closeIn closeCall askOne askTwo parentCall pieceCall cutCall soleCall afterTake afterClose afterOpen step opening after startedAt adoptedAt put writeUpTo writeNumber
+unfolding pick between linked tally up depth count some every first least table listed parentOf rank noteOf markOf placed par lev fresh place putNote putMark putHeld putCrossed cleared alone merged piecesFrom pieces member sizeOf heldIn better noteLink hold fill holdLink buildLink buildLinks noted topOf hang nextOf reachNext goBack walkStep walkSteps walked placePath lost placeWalk placePiece placeFrom placePieces closeBuilding done rootedIn adoptable adopted above hear readLink readLinks seen accepted lowest reach childOf soleBelow sole cut rootOf piece square triangle onto readGroups atMost readUpTo readNumber groupsOf writtenNumber andThen placedAt joins counts readEnds readLinkAt before linksIn linksAt blockLinks writtenLinks sum below belowIf beside passed turnAt turn end atTurn storedIn numbersOf behind section linkIn wordOf tablesIn fragOf heldOf asked allZero stageFits standsAt forestFits endsFit noneTwice quotaFits heldFits noteFits clearAt lowFits notesFit restZero countsFit readFits markFits restAgrees numberedAt numbersFit fits sound boundsRefusal headRefusal headed moved leaves startCall adoptRefusal adoptCall tell taken takeIn takeCall openCall endBuilding endReading closeIn closeCall askOne askTwo parentCall pieceCall cutCall soleCall afterTake afterClose afterOpen step opening after startedAt adoptedAt put writeUpTo writeNumber
 computed = record {
   start-4-1 = refl;
   start-4-2 = refl;
@@ -188,7 +189,7 @@ met-forest = demand-2-forest (from-4-1 twice .0) (rw (computed .built) (λ x. x)
 
 pub met-piece : PieceIn (linked square) 2 0
 met-piece =
-    let a : PieceAt p1-built 2 = record { answer = Number 0; promise = sym (computed .built-piece) } in
+    let a : PieceAt p1-built 2 = record { answer = Number 0; frag = p1-built .frag; promise = (sym (computed .built-piece), refl) } in
     demand-2-pieces (from-4-1 twice .0) (rw (computed .built) (λ x. x)) (linked square) (same-told _ (computed .built-told)) 2 (omega arith) a
 
 pub met-accepts : (a : CloseAt p1-reading) → T (endsRead (a .answer))

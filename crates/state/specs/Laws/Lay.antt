@@ -11,11 +11,11 @@ use Rattle.base.specs.Truth.{and-intro}
 use Rattle.rules.specs.Links.{linked}
 use Rattle.rules.specs.Tables.{Tables}
 use Rattle.state.specs.Layout.{words, stored, radix, section, linkIn, wordOf, tablesIn, behind, fragOf, heldOf}
-use Rattle.state.specs.Test.{allZero}
+use Rattle.state.specs.Test.{isNumbered, allZero}
 use Rattle.state.specs.Laws.Lists.{length-map, parts, all-zeros, zeros-between, zeros-pass}
 use Rattle.state.specs.Laws.Words.{words-links, links-words}
 use Rattle.state.specs.Laws.Layout.{tables-are}
-use Rattle.state.specs.Laws.Behind.{section-first, section-next, drop-next, rest, behind-length}
+use Rattle.state.specs.Laws.Behind.{section-first, section-next, drop-next, rest, behind-plain, behind-length}
 use Rattle.state.specs.declared.State.{State}
 use Rattle.state.specs.declared.Stage.{Stage}
 
@@ -47,6 +47,11 @@ frag-kept s f f′ h′ t e l z k =
   where
     past : (g : List ℕ) → drop (words * s .n) g ≡ drop ((words - stored) * s .n) (drop (stored * s .n) g)
     past g = let e : words * s .n ≡ stored * s .n + (words - stored) * s .n = omega arith in ap (λ i. drop i g) e ∙ sym (drop-drop ((words - stored) * s .n) (stored * s .n) g)
+
+-- Where the forest is not numbered the stage does not count.
+pub frag-plain : (g j : Stage) (n : ℕ) (t : Tables) (f : List ℕ) → (T (isNumbered g) → ⊥) → (T (isNumbered j) → ⊥) → fragOf g n t f ≡ fragOf j n t f
+unfolding fragOf
+frag-plain g j n t f a b = rw (behind-plain n t g a, behind-plain n t j b)
 
 -- The held table, from its unused words and the words past its end.
 pub held-laid : (s : State) (f′ h h′ : List ℕ) (t : Tables) → tablesIn s f′ h′ ≡ t → s .held ≤ s .k * s .n → s .k * s .n ≤ length h′
