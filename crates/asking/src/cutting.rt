@@ -37,10 +37,11 @@ fn has_shut(frag: &[u32], n: usize, v: usize) -> bool
     let mut i = turn_at(frag, n, v) + 1;
     while i < end {
         let c = whose_at(frag, n, i);
+        let next = end_at(frag, n, c);
         if level <= reach(frag, n, c) {
             return true;
         }
-        i = end_at(frag, n, c);
+        i = next;
     }
     false
 }

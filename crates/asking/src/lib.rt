@@ -9,5 +9,4 @@ pub use ask::level;
 pub use ask::parent;
 pub use questions::cut;
 pub use questions::sole;
-pub use ranges::low;
 pub use tree::piece;

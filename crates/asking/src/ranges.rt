@@ -6,28 +6,16 @@ ghost use Rattle.state.specs.Layout.{forestIn};
 ghost use Rattle.testing.specs.Whole.{Numbered};
 use tables::end_at;
 use tables::level_of;
-use tables::note_at;
+use tables::low_of;
 use tables::parent_of;
 use tables::turn_at;
 use tables::whose_at;
-
-// The least of a fragment's own level and the levels that it noted.
-pub fn low(frag: &[u32], n: usize, v: usize) -> usize
-    ensures { λ r. ⌜ r ≡ lowest (forestIn n (now (frag .entry))) v ⌝ }
-{
-    let own = level_of(frag, n, v);
-    let note = note_at(frag, n, v);
-    if own <= note {
-        return 0;
-    }
-    own - note
-}
 
 // The least so far, with u's note.
 fn lower(frag: &[u32], n: usize, u: usize, least: usize) -> usize
     ensures { λ r. ⌜ r ≡ min (lowest (forestIn n (now (frag .entry))) u) least ⌝ }
 {
-    let here = low(frag, n, u);
+    let here = low_of(frag, n, u);
     if least <= here {
         return least;
     }
@@ -40,7 +28,7 @@ pub(crate) fn reach(frag: &[u32], n: usize, v: usize) -> usize
     ensures { λ r. ⌜ r ≡ reaching n (forestIn n (now (frag .entry))) v ⌝ }
 {
     let end = end_at(frag, n, v);
-    let mut least = low(frag, n, v);
+    let mut least = low_of(frag, n, v);
     let mut i = turn_at(frag, n, v) + 1;
     while i < end {
         least = lower(frag, n, whose_at(frag, n, i), least);

@@ -1,13 +1,13 @@
--- A note, a child and a sole link, by the words that are read.
+-- A child and a sole link, by the words that are read.
 -- Assumes nothing.
-use Prim.Native.Nat.{ℕ, _-_}
+use Prim.Native.Nat.{ℕ}
 use mathlib.Core.Path.{_≡_}
 use mathlib.Core.Bool.{Bool, true, false, not}
 use mathlib.Core.List.{List}
 use borrow.Author.Tests.{eq-eqb, ne-eqb}
 use lib.Dec.{eqb}
-use Rattle.rules.specs.Tables.{par, lev, noteOf}
-use Rattle.rules.specs.Reading.{lowest, reach, childOf, soleBelow, sole}
+use Rattle.rules.specs.Tables.{par, lev}
+use Rattle.rules.specs.Reading.{reach, childOf, soleBelow, sole}
 use Rattle.state.specs.Layout.{forestIn}
 
 -- A child, by its parent.
@@ -19,11 +19,6 @@ module _ (n : ℕ) (f : List ℕ) (v c p : ℕ) (e : p ≡ par (forestIn n f) c)
   pub child-other : p ≡ v → not (eqb c v) ≡ childOf (forestIn n f) v c
   unfolding childOf
   child-other g = rw (← e, eq-eqb p v g)
-
--- A note, by how far it lies under the level.
-pub low-note : (n : ℕ) (f : List ℕ) (v own note r : ℕ) → own ≡ lev (forestIn n f) v → note ≡ noteOf (forestIn n f) v → r ≡ own - note → r ≡ lowest (forestIn n f) v
-unfolding lowest
-low-note n f v own note r e g k = rw (k, e, g)
 
 -- Sole: a child, and its reach; on either side.
 module _ (n : ℕ) (f : List ℕ) (a b : ℕ) where

@@ -42,18 +42,17 @@ loop-holds c =
     (c .before .end-at .ensures .says ∙ N .ends _ h, walk-starts _ _ (levels (N .whole)) _ h _ (ap (λ i. i + 1) (c .turn-at .ensures .says ∙ N .turns _ h)))
 
 reach-requires : tie.Need-reach-requires Inv-loop μ-loop
-reach-requires c κs = (c .before .before .before .before .before .before .before .pre .0, child c .0)
+reach-requires c κs = (c .before .before .before .before .before .before .before .before .pre .0, child (c .before) .0)
 
 returns : tie.Need-returns Inv-loop μ-loop
 returns c =
-    let s = c .before .before .before .before .before .before .before .before .before in
-    let l = c .before .before .before .before .loop in
-    walk-found _ _ (levels (s .pre .0 .whole)) _ (s .pre .1) (l .i) (l .inv .1) (omega (arith, l .inv .0)) _ (at (c .before .before)) (omega (arith, c .before .reach .ensures, c .before .before .before .before .before .before .before .level-of .ensures))
+    let s = c .before .before .before .before .before .before .before .before .before .before in
+    let l = c .before .before .before .before .before .loop in
+    walk-found _ _ (levels (s .pre .0 .whole)) _ (s .pre .1) (l .i) (l .inv .1) (omega (arith, l .inv .0)) _ (at (c .before .before .before)) (omega (arith, c .before .reach .ensures, c .before .before .before .before .before .before .before .before .level-of .ensures))
 
 loop-less : tie.Need-loop-less Inv-loop μ-loop
 loop-less c =
-    let s = c .before .before .before .before .before .before .before .before .before .before in
-    let N = s .pre .0 in
+    let N = c .before .before .before .before .before .before .before .before .before .before .pre .0 in
     let (k, e) = child (c .before .before .before) in
     omega (arith, turn-end _ _ (levels (N .whole)) _ k, N .ends _ k)
 
@@ -62,7 +61,7 @@ loop-again c =
     let s = c .before .before .before .before .before .before .before .before .before .before in
     let N = s .pre .0 in
     let l = c .before .before .before .before .before .loop in
-    (l .inv .0, walk-on _ _ (levels (N .whole)) _ (s .pre .1) (l .i) (l .inv .1) (omega (arith, l .inv .0)) _ (at (c .before .before .before)) (omega (arith, c .before .before .reach .ensures, c .before .before .before .before .before .before .before .before .level-of .ensures)) _ (c .end-at2 .ensures .says ∙ N .ends _ (child (c .before .before .before) .0)))
+    (l .inv .0, walk-on _ _ (levels (N .whole)) _ (s .pre .1) (l .i) (l .inv .1) (omega (arith, l .inv .0)) _ (at (c .before .before .before)) (omega (arith, c .before .reach .ensures, c .before .before .before .before .before .before .before .before .level-of .ensures)) _ (c .before .before .end-at2 .ensures .says ∙ N .ends _ (child (c .before .before .before) .0)))
 
 returns-2 : tie.Need-returns-2 Inv-loop μ-loop
 returns-2 c =
@@ -82,9 +81,9 @@ has-shut-spec =
     (λ c. search needs)
     loop-holds
     (λ c κs. search needs)
+    (λ c κs. search needs)
     reach-requires
     returns
-    (λ c κs. search needs)
     loop-less
     loop-again
     returns-2)

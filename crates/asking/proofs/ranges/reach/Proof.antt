@@ -23,7 +23,7 @@ loop-holds c =
     let s = c .before .before .before .before in
     let N = s .pre .0 in
     let h = s .pre .1 in
-    (c .before .before .end-at .ensures .says ∙ N .ends _ h, reach-starts _ _ (levels (N .whole)) _ h _ _ (ap (λ i. i + 1) (c .turn-at .ensures .says ∙ N .turns _ h)) (c .before .low .ensures))
+    (c .before .before .end-at .ensures .says ∙ N .ends _ h, reach-starts _ _ (levels (N .whole)) _ h _ _ (ap (λ i. i + 1) (c .turn-at .ensures .says ∙ N .turns _ h)) (c .before .low-of .ensures))
 
 loop-again : tie.Need-loop-again Inv-loop μ-loop
 loop-again c =
