@@ -15,7 +15,7 @@ use reaches::PIECE;
 use state::State;
 use state::clear;
 use state::wide;
-use tables::STORED;
+use tables::SCRATCH;
 use tables::parent_at;
 pub use text::no_file_line;
 pub use text::refusal_line;
@@ -59,7 +59,7 @@ fn all_lines(s: State, frag: &[u32], out: &mut [u8]) -> usize
 // The text is gone through twice: for its length, and to write it.
 fn written(s: State, frag: &mut [u32], out: &mut [u8]) -> Written
     requires { ⌜ Threadable (s .n) (now frag) ⌝ }
-    ensures { λ r. ⌜ (wrote r (now (out .exit)) ≡ store (now (out .entry)) (reportLines (s .n) (s .entries) (s .passes) (forestIn (s .n) (now (frag .entry))))) × Only (7 * s .n) (9 * s .n) (now (frag .entry)) (now (frag .exit)) ⌝ }
+    ensures { λ r. ⌜ (wrote r (now (out .exit)) ≡ store (now (out .entry)) (reportLines (s .n) (s .entries) (s .passes) (forestIn (s .n) (now (frag .entry))))) × Only (10 * s .n) (12 * s .n) (now (frag .entry)) (now (frag .exit)) ⌝ }
 {
     thread(frag, s.n);
     let mut none = [0u8; 1];
@@ -80,6 +80,6 @@ pub fn report(s: State, frag: &mut [u32], held: &[u32], out: &mut [u8]) -> Writt
         return not_written(refusal);
     }
     let end = written(s, frag, out);
-    clear(frag, STORED * s.n, State::WORDS * s.n);
+    clear(frag, SCRATCH * s.n, State::WORDS * s.n);
     end
 }

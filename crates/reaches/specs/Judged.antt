@@ -16,36 +16,36 @@ use Rattle.reaches.specs.Spread.{flag, soleAt}
 use Rattle.reaches.specs.Order.{Only, Blank}
 
 pub record Lows (n : ℕ) (f g : List ℕ) : Type 0 where
-  pub only : Only (8 * n) (9 * n) f g
-  pub each : (v : ℕ) → v < n → getD g (8 * n + v) 0 ≡ reach n (forestIn n f) v
+  pub only : Only (10 * n) (11 * n) f g
+  pub each : (v : ℕ) → v < n → getD g (10 * n + v) 0 ≡ reach n (forestIn n f) v
 
 pub record Pieces (n : ℕ) (f g : List ℕ) : Type 0 where
-  pub only : Only (4 * n) (5 * n) f g
-  pub each : (v : ℕ) → v < n → getD g (4 * n + v) 0 ≡ piece n (forestIn n f) v
+  pub only : Only (7 * n) (8 * n) f g
+  pub each : (v : ℕ) → v < n → getD g (7 * n + v) 0 ≡ piece n (forestIn n f) v
 
--- Section 8 has the reaches.
+-- Section 10 has the reaches.
 pub record Reached (n : ℕ) (f : List ℕ) : Type 0 where
   pub whole : Whole n f
-  pub each : (v : ℕ) → v < n → getD f (8 * n + v) 0 ≡ reach n (forestIn n f) v
+  pub each : (v : ℕ) → v < n → getD f (10 * n + v) 0 ≡ reach n (forestIn n f) v
 
 -- The sole links of the first k fragments.
 pub record Soles (n k : ℕ) (f g : List ℕ) : Type 0 where
-  pub only : Only (6 * n) (7 * n) f g
-  pub each : (v : ℕ) → v < k → getD g (6 * n + v) 0 ≡ soleAt n (forestIn n f) v
+  pub only : Only (9 * n) (10 * n) f g
+  pub each : (v : ℕ) → v < k → getD g (9 * n + v) 0 ≡ soleAt n (forestIn n f) v
 
--- Whether p is cut by its child c, where section 10 says whether it had one before.
+-- Whether p is cut by its child c, where section 11 says whether it had one before.
 unfoldable pub cutsAt : (n p c : ℕ) → List ℕ → Bool
 cutsAt n p c f =
     pick (eqb (par (forestIn n f) p) p)
-    (not (eqb (getD f (10 * n + p) 0) 0))
-    (leb (lev (forestIn n f) p) (getD f (8 * n + c) 0))
+    (not (eqb (getD f (11 * n + p) 0) 0))
+    (leb (lev (forestIn n f) p) (getD f (10 * n + c) 0))
 
--- Its word in section 5 then; and p has a child.
+-- Its word in section 8 then; and p has a child.
 unfoldable pub cutWord : (n p c : ℕ) → List ℕ → ℕ
-cutWord n p c f = pick (cutsAt n p c f) 1 (getD f (5 * n + p) 0)
+cutWord n p c f = pick (cutsAt n p c f) 1 (getD f (8 * n + p) 0)
 
 unfoldable pub cutBy : (n p c : ℕ) → List ℕ → List ℕ
-cutBy n p c f = set (set f (5 * n + p) (cutWord n p c f)) (10 * n + p) 1
+cutBy n p c f = set (set f (8 * n + p) (cutWord n p c f)) (11 * n + p) 1
 
 unfoldable pub cutOne : (n c : ℕ) → List ℕ → List ℕ
 cutOne n c f = pick (eqb (par (forestIn n f) c) c) f (cutBy n (par (forestIn n f) c) c f)
@@ -59,13 +59,13 @@ cutSo n t k v =
 
 pub record Cuttable (n : ℕ) (f : List ℕ) : Type 0 where
   pub reached : Reached n f
-  pub no-cut : Blank (5 * n) (6 * n) f
-  pub no-child : Blank (10 * n) (11 * n) f
+  pub no-cut : Blank (8 * n) (9 * n) f
+  pub no-child : Blank (11 * n) (12 * n) f
 
 pub record Cuts (n k : ℕ) (f g : List ℕ) : Type 0 where
   pub long : length g ≡ length f
-  pub before : (i : ℕ) → i < 5 * n → getD g i 0 ≡ getD f i 0
-  pub between : (i : ℕ) → 6 * n ≤ i → i < 10 * n → getD g i 0 ≡ getD f i 0
-  pub behind : (i : ℕ) → 11 * n ≤ i → getD g i 0 ≡ getD f i 0
-  pub each : (v : ℕ) → v < n → getD g (5 * n + v) 0 ≡ flag (cutSo n (forestIn n f) k v)
-  pub child : (v : ℕ) → v < n → getD g (10 * n + v) 0 ≡ flag (some (childOf (forestIn n f) v) k)
+  pub before : (i : ℕ) → i < 8 * n → getD g i 0 ≡ getD f i 0
+  pub between : (i : ℕ) → 9 * n ≤ i → i < 11 * n → getD g i 0 ≡ getD f i 0
+  pub behind : (i : ℕ) → 12 * n ≤ i → getD g i 0 ≡ getD f i 0
+  pub each : (v : ℕ) → v < n → getD g (8 * n + v) 0 ≡ flag (cutSo n (forestIn n f) k v)
+  pub child : (v : ℕ) → v < n → getD g (11 * n + v) 0 ≡ flag (some (childOf (forestIn n f) v) k)

@@ -1,7 +1,7 @@
 -- Laws about the definitions, and the lemmas that the proofs of the code rest on.
 -- Assumes nothing.
 pub mod Only
-pub mod Order
 pub mod Passes
+pub mod Order
 pub mod Judged
 pub mod Laid

@@ -9,19 +9,23 @@ use Rattle.rules.specs.Tables.{Tables, par}
 use Rattle.rules.specs.Reading.{above, lowest, rootOf}
 use Rattle.state.specs.Layout.{words, forestIn}
 use Rattle.testing.specs.Whole.{Whole}
-use Rattle.reaches.specs.Order.{Only, Ordered}
+use Rattle.reaches.specs.Order.{Only, Blank, Ordered}
 
 -- A whole table with an order.
 pub record Ready (n : ℕ) (f : List ℕ) : Type 0 where
   pub whole : Whole n f
   pub ordered : Ordered n (forestIn n f) f
 
--- A value for each fragment stands from `base` on, in scratch and beside the order.
+-- One with an order whose scratch is 0.
+pub record Layable (n : ℕ) (f : List ℕ) : Type 0 where
+  pub ready : Ready n f
+  pub blank : Blank (7 * n) (words * n) f
+
+-- A value for each fragment stands from `base` on, in scratch.
 pub record Sinkable (n base : ℕ) (f : List ℕ) : Type 0 where
   pub ready : Ready n f
-  pub scratch : 4 * n ≤ base
+  pub scratch : 7 * n ≤ base
   pub inside : base + n ≤ words * n
-  pub apart : (i v : ℕ) → i < n → v < n → 7 * n + i ≡ base + v → ⊥
 
 -- The parent's value becomes no greater than v's.
 unfoldable pub sunkAt : (n base v : ℕ) → List ℕ → List ℕ
@@ -36,20 +40,20 @@ pub record Sinks (n base : ℕ) (f g : List ℕ) : Type 0 where
   pub only : Only base (base + n) f g
   pub each : (v : ℕ) → v < n → getD g (base + v) 0 ≡ leastBelow n (forestIn n f) (λ u. getD f (base + u) 0) v
 
--- v has its parent's value, in section 4.
+-- v has its parent's value, in section 7.
 unfoldable pub fallenAt : (n v : ℕ) → List ℕ → List ℕ
-fallenAt n v f = set f (4 * n + v) (getD f (4 * n + par (forestIn n f) v) 0)
+fallenAt n v f = set f (7 * n + v) (getD f (7 * n + par (forestIn n f) v) 0)
 
 -- Each fragment has its root's value.
 pub record Falls (n : ℕ) (f g : List ℕ) : Type 0 where
-  pub only : Only (4 * n) (5 * n) f g
-  pub each : (v : ℕ) → v < n → getD g (4 * n + v) 0 ≡ getD f (4 * n + rootOf (forestIn n f) v) 0
+  pub only : Only (7 * n) (8 * n) f g
+  pub each : (v : ℕ) → v < n → getD g (7 * n + v) 0 ≡ getD f (7 * n + rootOf (forestIn n f) v) 0
 
--- The values to begin with, of the first k: notes in section 8, own numbers in section 4.
+-- The values to begin with, of the first k: notes in section 10, own numbers in section 7.
 pub record Low (n k : ℕ) (f g : List ℕ) : Type 0 where
-  pub only : Only (8 * n) (9 * n) f g
-  pub each : (v : ℕ) → v < k → getD g (8 * n + v) 0 ≡ lowest (forestIn n f) v
+  pub only : Only (10 * n) (11 * n) f g
+  pub each : (v : ℕ) → v < k → getD g (10 * n + v) 0 ≡ lowest (forestIn n f) v
 
-pub record Numbered (n k : ℕ) (f g : List ℕ) : Type 0 where
-  pub only : Only (4 * n) (5 * n) f g
-  pub each : (v : ℕ) → v < k → getD g (4 * n + v) 0 ≡ v
+pub record Own (n k : ℕ) (f g : List ℕ) : Type 0 where
+  pub only : Only (7 * n) (8 * n) f g
+  pub each : (v : ℕ) → v < k → getD g (7 * n + v) 0 ≡ v

@@ -9,7 +9,7 @@ use Rattle.base.specs.Pick.{pick}
 use Rattle.rules.specs.Search.{table}
 use Rattle.rules.specs.Tables.{Tables, par}
 use Rattle.rules.specs.Reading.{soleBelow, cut, piece}
-use Rattle.state.specs.Layout.{stored, tablesIn}
+use Rattle.state.specs.Layout.{tablesIn}
 use Rattle.state.specs.Test.{isRead}
 use Rattle.state.specs.Call.{headRefusal}
 use Rattle.state.specs.declared.State.{State}
@@ -18,19 +18,19 @@ use Rattle.state.specs.declared.State.{State}
 unfoldable pub flag : Bool → ℕ
 flag b = pick b 1 0
 
--- Section 5: whether the fragment is cut.
+-- Section 8: whether the fragment is cut.
 unfoldable pub cutAt : ℕ → Tables → ℕ → ℕ
 cutAt n t v = flag (cut n t v)
 
--- Section 6: whether the link to its parent is sole; a root has none.
+-- Section 9: whether the link to its parent is sole; a root has none.
 unfoldable pub soleAt : ℕ → Tables → ℕ → ℕ
 soleAt n t v = flag (soleBelow n t (par t v) v)
 
--- Section 4, the piece, and those two, between the words that stood before and behind them.
+-- Section 7, the piece, and those two, between the words that stood before and behind them.
 unfoldable pub laid : ℕ → Tables → List ℕ → List ℕ
 laid n t f =
-    take (stored * n) f
-    ++ (table (piece n t) n ++ (table (cutAt n t) n ++ (table (soleAt n t) n ++ drop (7 * n) f)))
+    take (7 * n) f
+    ++ (table (piece n t) n ++ (table (cutAt n t) n ++ (table (soleAt n t) n ++ drop (10 * n) f)))
 
 -- Where a refusal is due at the head of a question that is asked in Read the table is as it was.
 unfoldable pub spreadIn : State → List ℕ → List ℕ → List ℕ

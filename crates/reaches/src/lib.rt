@@ -1,7 +1,6 @@
-// What the questions piece, sole and cut answer, for all fragments of a forest at once: an order in which parents come first, and a few passes over it.
+// What the questions piece, sole and cut answer, for all fragments of a forest at once: a few passes over their turns, by which parents come first.
 mod judge;
 mod laying;
-mod order;
 mod sections;
 mod sink;
 

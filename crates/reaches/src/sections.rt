@@ -1,23 +1,17 @@
 // Sections of scratch. The first three are left to the caller; the others are 0 again at the end.
-pub const PIECE: usize = 4;
+pub const PIECE: usize = 7;
 
 // 1 where the fragment is cut.
-pub const CUT: usize = 5;
+pub const CUT: usize = 8;
 
 // 1 where the link to the parent is sole.
-pub const SOLE: usize = 6;
-
-// The fragments, parents before their children.
-pub(crate) const ORDER: usize = 7;
+pub const SOLE: usize = 9;
 
 // The reach.
-pub(crate) const LOW: usize = 8;
-
-// How many fragments each level has; then the turn of the next of each level.
-pub(crate) const START: usize = 9;
+pub(crate) const LOW: usize = 10;
 
 // 1 where a child was met.
-pub(crate) const CHILD: usize = 10;
+pub(crate) const CHILD: usize = 11;
 
 // The first section behind them.
-pub(crate) const END: usize = 11;
+pub(crate) const PAST: usize = 12;

@@ -1,13 +1,13 @@
-// Passes over the order: the least of each fragment's value and those of all below it, and the value of the root for all of its tree.
+// Passes over the turns, by which parents come first: the least of each fragment's value and those of all below it, and the value of the root for all of its tree.
 ghost use mathlib.Core.Path.{_≡_};
 ghost use Prim.Native.Nat.{_<_, min};
 ghost use Rattle.rules.specs.Tables.{par};
 ghost use Rattle.state.specs.Layout.{forestIn};
 ghost use Rattle.testing.specs.Whole.{Whole};
 ghost use Rattle.reaches.specs.Passes.{Sinkable, sunkAt, Sinks, Ready, fallenAt, Falls};
-use crate::sections::ORDER;
 use crate::sections::PIECE;
 use state::wide;
+use tables::WHOSE;
 use tables::parent_of;
 
 // The parent of a fragment: one of n.
@@ -44,7 +44,7 @@ pub(crate) fn sink(frag: &mut [u32], n: usize, base: usize)
     let mut i = n;
     while i > 0 {
         i -= 1;
-        let v = wide(frag[ORDER * n + i]);
+        let v = wide(frag[WHOSE * n + i]);
         sink_one(frag, n, base, v);
     }
 }
@@ -64,7 +64,7 @@ pub(crate) fn fall(frag: &mut [u32], n: usize)
 {
     let mut i = 0;
     while i < n {
-        let v = wide(frag[ORDER * n + i]);
+        let v = wide(frag[WHOSE * n + i]);
         fall_one(frag, n, v);
         i += 1;
     }

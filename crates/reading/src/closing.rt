@@ -1,10 +1,10 @@
 // Close in Reading: 'refusal 9 is given exactly when the pass is false or some parent link was not seen'
-ghost use Prim.Native.Nat.{_*_, _≤_};
+ghost use Prim.Native.Nat.{_+_, _*_, _≤_};
 ghost use mathlib.Core.Path.{_≡_};
 ghost use mathlib.Core.Bool.{_&&_, not};
 ghost use Rattle.rules.specs.Search.{every};
 ghost use Rattle.rules.specs.Reading.{seen};
-ghost use Rattle.state.specs.Layout.{stored, forestIn, wiped};
+ghost use Rattle.state.specs.Layout.{stored, numbers, forestIn, wiped};
 ghost use Rattle.state.specs.Call.{fragmentsMost};
 ghost use Rattle.state.specs.Test.{isReading};
 ghost use Rattle.state.specs.Close.{closeIn};
@@ -18,7 +18,7 @@ use state::State;
 use state::clear;
 use state::is_reading;
 use tables::NOTE;
-use tables::STORED;
+use tables::SCRATCH;
 use tables::mark_at;
 use tables::parent_of;
 use testing::head;
@@ -55,13 +55,13 @@ fn holds(frag: &[u32], n: usize, crossed: bool) -> bool
     all_seen(frag, n)
 }
 
-// Refusal 9: the notes are cleared and the stage is Built.
+// Refusal 9: the notes are cleared, and the numbers with them, and the stage is Built.
 fn fail(s: State, frag: &mut [u32]) -> Closed
     requires { ⌜ s .n ≤ fragmentsMost ⌝ }
-    ensures { λ r. ⌜ (r ≡ False (failed s)) × (now (frag .exit) ≡ wiped (2 * s .n) (stored * s .n) (now (frag .entry))) ⌝ }
+    ensures { λ r. ⌜ (r ≡ False (failed s)) × (now (frag .exit) ≡ wiped (2 * s .n) ((stored + numbers) * s .n) (now (frag .entry))) ⌝ }
 {
     let n = s.n;
-    clear(frag, NOTE * n, STORED * n);
+    clear(frag, NOTE * n, SCRATCH * n);
     Closed::False(s.moved(Stage::Built, s.passes, 0, 0, false))
 }
 

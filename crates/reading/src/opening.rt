@@ -1,7 +1,8 @@
-// Open reading: 'Open reading is allowed in Built and Read, and clears the notes.'
+// Open reading: 'Open reading is allowed in Built and Read, and clears the notes.' The forest is numbered as it is opened for the first time.
 ghost use mathlib.Core.Path.{_≡_};
 ghost use Rattle.state.specs.Close.{openCall};
 ghost use Rattle.state.specs.Answers.{takenTold};
+use numbering::head;
 use numbers::Refusal;
 use state::Stage;
 use state::State;
@@ -10,7 +11,6 @@ use state::clear;
 use state::may_open;
 use tables::NOTE;
 use tables::STORED;
-use testing::head;
 
 pub fn open_reading(s: State, frag: &mut [u32], held: &mut [u32]) -> Taken
     ensures { λ r. ⌜ takenTold s r (now (frag .exit)) (now (held .exit)) ≡ openCall s (now (frag .entry)) (now (held .entry)) ⌝ }

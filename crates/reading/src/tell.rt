@@ -6,15 +6,16 @@ ghost use Prim.Native.Nat.{_<_, _-_, max};
 ghost use Rattle.rules.specs.Reading.{above, hear as hearing};
 ghost use Rattle.lists.specs.List.{blockLinks};
 ghost use Rattle.state.specs.Layout.{forestIn};
-ghost use Rattle.testing.specs.Whole.{Whole};
+ghost use Rattle.testing.specs.Whole.{Whole, Numbered};
 ghost use Rattle.reading.specs.Tell.{Leaves, Reads, Given, linksOf};
 use lists::Link;
 use state::wide;
 use tables::LEVEL;
 use tables::MARK;
 use tables::NOTE;
-use tables::is_above;
+use tables::end_at;
 use tables::parent_of;
+use tables::turn_at;
 
 // How far the note lies under the fragment's own level, once it hears of a level.
 fn farther(note: u32, own: u32, other: u32) -> u32
@@ -41,19 +42,22 @@ fn hear(frag: &mut [u32], n: usize, v: usize, w: usize)
     }
 }
 
-// Whether neither of a and b is above the other.
+// Whether neither of a and b is above the other: those below the one whose turn comes first end before the other's turn.
 fn apart(frag: &[u32], n: usize, a: usize, b: usize) -> bool
+    requires { ⌜ Numbered n (now frag) × (a < n) × (b < n) ⌝ }
     ensures { λ r. ⌜ r ≡ not (above (forestIn n (now (frag .entry))) a b || above (forestIn n (now (frag .entry))) b a) ⌝ }
 {
-    if is_above(frag, n, a, b) {
-        return false;
+    let one = turn_at(frag, n, a);
+    let other = turn_at(frag, n, b);
+    if one <= other {
+        return end_at(frag, n, a) <= other;
     }
-    !is_above(frag, n, b, a)
+    end_at(frag, n, b) <= one
 }
 
 // One link. Returns whether the pass is false now.
 fn read_link(frag: &mut [u32], n: usize, crossed: bool, a: usize, b: usize) -> bool
-    requires { ⌜ Whole n (now frag) × (a < n) × (b < n) ⌝ }
+    requires { ⌜ Numbered n (now frag) × (a < n) × (b < n) ⌝ }
     ensures { λ r. ⌜ Reads n crossed (now (frag .entry)) r (now (frag .exit)) ((a, b) ∷ []) ⌝ }
 {
     let crosses = apart(frag, n, a, b);
@@ -67,7 +71,7 @@ fn read_link(frag: &mut [u32], n: usize, crossed: bool, a: usize, b: usize) -> b
 
 // The links of a block that was scanned. Returns whether the pass is false now.
 pub(crate) fn tell(frag: &mut [u32], n: usize, entries: u32, crossed: bool, block: &[u8]) -> bool
-    requires { ⌜ Whole n (now frag) × Given n entries (now block) ⌝ }
+    requires { ⌜ Numbered n (now frag) × Given n entries (now block) ⌝ }
     ensures { λ r. ⌜ Reads n crossed (now (frag .entry)) r (now (frag .exit)) (linksOf (blockLinks n entries (now (block .entry)))) ⌝ }
 {
     let mut at: usize = 0;

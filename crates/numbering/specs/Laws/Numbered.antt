@@ -200,7 +200,7 @@ module _ {n : ℕ} {f g₁ : List ℕ} (o : Orderable n f) (a : Orders n f g₁)
               (λ i h. same-words l i)
 
 -- Where the forest has just been built, and its tables pass, what is not stored is 0.
-not-numbered : (g : Stage) → isBuilt g ≡ true → T (isNumbered g) → ⊥
+pub not-numbered : (g : Stage) → isBuilt g ≡ true → T (isNumbered g) → ⊥
 not-numbered Building e x = x
 not-numbered Built e x = x
 not-numbered Reading e x = absurd (false-T (isBuilt Reading) refl (true-T (isBuilt Reading) e))

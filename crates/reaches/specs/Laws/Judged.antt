@@ -27,7 +27,7 @@ use Rattle.testing.specs.Whole.{Whole}
 use Rattle.testing.specs.Laws.Whole.{levels}
 use Rattle.reaches.specs.Spread.{flag, soleAt}
 use Rattle.reaches.specs.Order.{Only}
-use Rattle.reaches.specs.Passes.{Ready, Sinkable, leastBelow, Sinks, Falls, Low, Numbered}
+use Rattle.reaches.specs.Passes.{Ready, Sinkable, leastBelow, Sinks, Falls, Low, Own}
 use Rattle.reaches.specs.Judged.{Lows, Pieces, Reached, Soles, cutsAt, cutWord, cutBy, cutOne, cutSo, Cuttable, Cuts}
 use Rattle.reaches.specs.Laws.Only.{only-refl, only-trans, only-more, only-forest, only-whole, take-by}
 use Rattle.reaches.specs.Laws.Passes.{ready-by, below-le, below-hit}
@@ -48,17 +48,16 @@ reach-below n t v = refl
 
 -- The notes sunk are the reaches.
 module _ {n : ℕ} {f g : List ℕ} (r : Ready n f) (l : Low n n f g) where
-  pub low-sinkable : Sinkable n (8 * n) g
+  pub low-sinkable : Sinkable n (10 * n) g
   low-sinkable = record {
-    ready = ready-by n (omega arith) (l .only) (λ j h. l .only .before (7 * n + j) (omega arith)) r;
+    ready = ready-by n (omega arith) (l .only) r;
     scratch = omega arith;
     inside = omega arith;
-    apart = λ i v a b e. omega arith;
   }
 
-  pub low-sunk : (k : List ℕ) → Sinks n (8 * n) g k → Lows n f k
+  pub low-sunk : (k : List ℕ) → Sinks n (10 * n) g k → Lows n f k
   low-sunk k s = record {
-    only = let e : 8 * n + n ≡ 9 * n = omega arith in only-trans (l .only) (rw e at (s .only));
+    only = let e : 10 * n + n ≡ 11 * n = omega arith in only-trans (l .only) (rw e at (s .only));
     each = λ v h. s .each v h ∙ rw (only-forest n (omega arith) (l .only)) (below-same n (forestIn n f) _ (lowest (forestIn n f)) (l .each) v h) ∙ reach-below n (forestIn n f) v;
   }
 
@@ -91,41 +90,40 @@ module _ {n : ℕ} {f : List ℕ} (w : Whole n f) where
       let b = s u (over-root v u h o) in
       omega (arith, a, b, q)
 
-module _ {n : ℕ} {f g : List ℕ} (r : Ready n f) (m : Numbered n n f g) where
-  pub number-sinkable : Sinkable n (4 * n) g
-  number-sinkable = record {
-    ready = ready-by n (omega arith) (m .only) (λ j h. m .only .behind (7 * n + j) (omega arith)) r;
+module _ {n : ℕ} {f g : List ℕ} (r : Ready n f) (m : Own n n f g) where
+  pub own-sinkable : Sinkable n (7 * n) g
+  own-sinkable = record {
+    ready = ready-by n (omega arith) (m .only) r;
     scratch = omega arith;
     inside = omega arith;
-    apart = λ i v a b e. omega arith;
   }
 
-  module _ (k : List ℕ) (s : Sinks n (4 * n) g k) where
-    sunk-only : Only (4 * n) (5 * n) g k
-    sunk-only = let e : 4 * n + n ≡ 5 * n = omega arith in rw e at (s .only)
+  module _ (k : List ℕ) (s : Sinks n (7 * n) g k) where
+    sunk-only : Only (7 * n) (8 * n) g k
+    sunk-only = let e : 7 * n + n ≡ 8 * n = omega arith in rw e at (s .only)
 
-    pub number-ready : Ready n k
-    number-ready = ready-by n (omega arith) sunk-only (λ j h. sunk-only .behind (7 * n + j) (omega arith)) (number-sinkable .ready)
+    pub own-ready : Ready n k
+    own-ready = ready-by n (omega arith) sunk-only (own-sinkable .ready)
 
-    number-forest : forestIn n k ≡ forestIn n f
-    number-forest = only-forest n (omega arith) (only-trans (m .only) sunk-only)
+    own-forest : forestIn n k ≡ forestIn n f
+    own-forest = only-forest n (omega arith) (only-trans (m .only) sunk-only)
 
-    pub number-fallen : (j : List ℕ) → Falls n k j → Pieces n f j
-    number-fallen j d = record {
+    pub own-fallen : (j : List ℕ) → Falls n k j → Pieces n f j
+    own-fallen j d = record {
       only = only-trans (only-trans (m .only) sunk-only) (d .only);
       each = λ v h.
           let t = forestIn n f in
           let i = root-in (r .whole) v h in
-          d .each v h ∙ ap (λ x. getD k (4 * n + rootOf x v) 0) number-forest
+          d .each v h ∙ ap (λ x. getD k (7 * n + rootOf x v) 0) own-forest
           ∙ s .each (rootOf t v) i ∙ rw (only-forest n (omega arith) (m .only)) (below-same n t _ (λ (u : ℕ). u) (m .each) (rootOf t v) i)
           ∙ tree-least (r .whole) v h;
     }
 
 -- The reaches stand while other sections are written.
-pub reached-by : (n : ℕ) {a b : ℕ} {f g : List ℕ} → 4 * n ≤ a → b ≤ 8 * n → Only a b f g → Reached n f → Reached n g
+pub reached-by : (n : ℕ) {a b : ℕ} {f g : List ℕ} → 4 * n ≤ a → b ≤ 10 * n → Only a b f g → Reached n f → Reached n g
 reached-by n h k o r = record {
   whole = only-whole n h o (r .whole);
-  each = λ v l. o .behind (8 * n + v) (omega arith) ∙ r .each v l ∙ ap (λ t. reach n t v) (sym (only-forest n h o));
+  each = λ v l. o .behind (10 * n + v) (omega arith) ∙ r .each v l ∙ ap (λ t. reach n t v) (sym (only-forest n h o));
 }
 
 -- Whether the link to the parent is sole.
@@ -148,17 +146,17 @@ module _ (n : ℕ) (t : Tables) (v p : ℕ) (ep : p ≡ par t v) where
     sole-no e = rw (← ep, other, ← er, ← el, ne-eqb r l e, pick-false)
 
 pub soles-none : (n : ℕ) (f : List ℕ) → Soles n 0 f f
-soles-none n f = record { only = only-refl (6 * n) (7 * n) f; each = λ v h. absurd (omega arith) }
+soles-none n f = record { only = only-refl (9 * n) (10 * n) f; each = λ v h. absurd (omega arith) }
 
 pub soles-fit : {n k : ℕ} {f g : List ℕ} → Reached n f → Soles n k f g → Reached n g
 soles-fit {n} r s = reached-by n (omega arith) (omega arith) (s .only) r
 
-pub soles-turn : {n k : ℕ} {f g : List ℕ} → Reached n f → Soles n k f g → k < n → (x : ℕ) → x ≡ soleAt n (forestIn n g) k → Soles n (k + 1) f (set g (6 * n + k) x)
+pub soles-turn : {n k : ℕ} {f g : List ℕ} → Reached n f → Soles n k f g → k < n → (x : ℕ) → x ≡ soleAt n (forestIn n g) k → Soles n (k + 1) f (set g (9 * n + k) x)
 soles-turn {n} {k} {f} {g} r s h x e = record {
-  only = only-more (s .only) (6 * n + k) x (omega arith) (omega arith);
+  only = only-more (s .only) (9 * n + k) x (omega arith) (omega arith);
   each = λ v i. elim (ℕ-discrete v k) [
-    | yes z ↦ rw z (getD-set-same g (6 * n + k) x 0 (omega (arith, r .whole .long, s .only .long)) ∙ e ∙ ap (λ t. soleAt n t k) (only-forest n (omega arith) (s .only)))
-    | no d ↦ getD-set-other g (6 * n + k) (6 * n + v) x 0 (omega arith) ∙ s .each v (omega arith)
+    | yes z ↦ rw z (getD-set-same g (9 * n + k) x 0 (omega (arith, r .whole .long, s .only .long)) ∙ e ∙ ap (λ t. soleAt n t k) (only-forest n (omega arith) (s .only)))
+    | no d ↦ getD-set-other g (9 * n + k) (9 * n + v) x 0 (omega arith) ∙ s .each v (omega arith)
   ];
 }
 
@@ -266,11 +264,11 @@ child-root t v k e = elim (ℕ-discrete k v) [
 
 -- The answers of the code.
 module _ (n p c : ℕ) (f : List ℕ) (q : ℕ) (eq : q ≡ par (forestIn n f) p) where
-  pub cuts-root : q ≡ p → not (eqb (getD f (10 * n + p) 0) 0) ≡ cutsAt n p c f
+  pub cuts-root : q ≡ p → not (eqb (getD f (11 * n + p) 0) 0) ≡ cutsAt n p c f
   unfolding cutsAt
   cuts-root e = rw (← eq, eq-eqb q p e, pick-true)
 
-  pub cuts-inner : (q ≡ p → ⊥) → (l : ℕ) → l ≡ lev (forestIn n f) p → (r : ℕ) → r ≡ getD f (8 * n + c) 0 → leb l r ≡ cutsAt n p c f
+  pub cuts-inner : (q ≡ p → ⊥) → (l : ℕ) → l ≡ lev (forestIn n f) p → (r : ℕ) → r ≡ getD f (10 * n + c) 0 → leb l r ≡ cutsAt n p c f
   unfolding cutsAt
   cuts-inner d l el r er = rw (← eq, ne-eqb q p d, pick-false, ← el, ← er)
 
@@ -279,7 +277,7 @@ module _ (n p c : ℕ) (f : List ℕ) where
   unfolding cutWord
   cut-marked e = rw (← e, pick-true)
 
-  pub cut-kept : false ≡ cutsAt n p c f → getD f (5 * n + p) 0 ≡ cutWord n p c f
+  pub cut-kept : false ≡ cutsAt n p c f → getD f (8 * n + p) 0 ≡ cutWord n p c f
   unfolding cutWord
   cut-kept e = rw (← e, pick-false)
 
@@ -288,7 +286,7 @@ module _ (n c : ℕ) (f : List ℕ) (p : ℕ) (ep : p ≡ par (forestIn n f) c) 
   unfolding cutOne
   cut-none e = rw (← ep, eq-eqb p c e, pick-true)
 
-  pub cut-some : (p ≡ c → ⊥) → (x : ℕ) → x ≡ cutWord n p c f → set (set f (5 * n + p) x) (10 * n + p) 1 ≡ cutOne n c f
+  pub cut-some : (p ≡ c → ⊥) → (x : ℕ) → x ≡ cutWord n p c f → set (set f (8 * n + p) x) (11 * n + p) 1 ≡ cutOne n c f
   unfolding cutOne cutBy
   cut-some d x e = rw (← ep, ne-eqb p c d, pick-false, e)
 
@@ -299,8 +297,8 @@ cuts-none n f c = record {
   before = λ i h. refl;
   between = λ i a b. refl;
   behind = λ i h. refl;
-  each = λ v h. c .no-cut (5 * n + v) (omega arith) (omega arith) ∙ sym (ap flag (none v) ∙ flag-none);
-  child = λ v h. c .no-child (10 * n + v) (omega arith) (omega arith) ∙ sym (ap flag (some-zero (childOf (forestIn n f) v)) ∙ flag-none);
+  each = λ v h. c .no-cut (8 * n + v) (omega arith) (omega arith) ∙ sym (ap flag (none v) ∙ flag-none);
+  child = λ v h. c .no-child (11 * n + v) (omega arith) (omega arith) ∙ sym (ap flag (some-zero (childOf (forestIn n f) v)) ∙ flag-none);
 }
   where
     none : (v : ℕ) → cutSo n (forestIn n f) 0 v ≡ false
@@ -319,13 +317,13 @@ module _ {n k : ℕ} {f g : List ℕ} (c : Cuttable n f) (s : Cuts n k f g) wher
       let w = r .whole in
       record {
         whole = record { few = w .few; long = omega (arith, w .long, s .long); standing = rw cuts-same (w .standing); all = rw cuts-same (w .all) };
-        each = λ v l. s .between (8 * n + v) (omega arith) (omega arith) ∙ r .each v l ∙ ap (λ t. reach n t v) (sym cuts-same);
+        each = λ v l. s .between (10 * n + v) (omega arith) (omega arith) ∙ r .each v l ∙ ap (λ t. reach n t v) (sym cuts-same);
       }
 
   -- What the code finds is whether the child k cuts its parent.
   cuts-found : (p : ℕ) → p < n → k < n → cutsAt n p k g ≡ cutsBy n (forestIn n f) p k
   unfolding cutsAt cutsBy
-  cuts-found p h l = rw (cuts-same, s .child p h, flag-some (some (childOf (forestIn n f) p) k), s .between (8 * n + k) (omega arith) (omega arith), c .reached .each k l)
+  cuts-found p h l = rw (cuts-same, s .child p h, flag-some (some (childOf (forestIn n f) p) k), s .between (10 * n + k) (omega arith) (omega arith), c .reached .each k l)
 
   -- One that has no parent changes nothing.
   cuts-skip : k < n → par (forestIn n f) k ≡ k → Cuts n (suc k) f g
@@ -340,26 +338,26 @@ module _ {n k : ℕ} {f g : List ℕ} (c : Cuttable n f) (s : Cuts n k f g) wher
         child = λ v h. s .child v h ∙ ap flag (sym (child-stays n t v k (child-root t v k e)));
       }
 
-  cuts-mark : k < n → (p x : ℕ) → p ≡ par (forestIn n f) k → p < n → (p ≡ k → ⊥) → x ≡ flag (cutSo n (forestIn n f) (suc k) p) → Cuts n (suc k) f (set (set g (5 * n + p) x) (10 * n + p) 1)
+  cuts-mark : k < n → (p x : ℕ) → p ≡ par (forestIn n f) k → p < n → (p ≡ k → ⊥) → x ≡ flag (cutSo n (forestIn n f) (suc k) p) → Cuts n (suc k) f (set (set g (8 * n + p) x) (11 * n + p) 1)
   cuts-mark l p x ep hp d ex =
       let t = forestIn n f in
       let w = c .reached .whole in
-      let g′ = set g (5 * n + p) x in
+      let g′ = set g (8 * n + p) x in
       let own : childOf t p k ≡ true = rw ep (child-is t k (λ e. d (ep ∙ e))) in
       let apart : (v : ℕ) → v ≢ p → childOf t v k ≡ false = λ v b. child-other t v k (λ e. b (sym e ∙ sym ep)) in
-      let two : (i : ℕ) → i ≢ 5 * n + p → i ≢ 10 * n + p → getD (set g′ (10 * n + p) 1) i 0 ≡ getD g i 0 = λ i a b. getD-set-other g′ (10 * n + p) i 1 0 b ∙ getD-set-other g (5 * n + p) i x 0 a in
+      let two : (i : ℕ) → i ≢ 8 * n + p → i ≢ 11 * n + p → getD (set g′ (11 * n + p) 1) i 0 ≡ getD g i 0 = λ i a b. getD-set-other g′ (11 * n + p) i 1 0 b ∙ getD-set-other g (8 * n + p) i x 0 a in
       record {
         long = simp length-set (s .long);
         before = λ i h. two i (omega arith) (omega arith) ∙ s .before i h;
         between = λ i a b. two i (omega arith) (omega arith) ∙ s .between i a b;
         behind = λ i h. two i (omega arith) (omega arith) ∙ s .behind i h;
         each = λ v h. elim (ℕ-discrete v p) [
-          | yes z ↦ rw z (getD-set-other g′ (10 * n + p) (5 * n + p) 1 0 (omega arith) ∙ getD-set-same g (5 * n + p) x 0 (omega (arith, w .long, s .long)) ∙ ex)
-          | no b ↦ two (5 * n + v) (omega arith) (omega arith) ∙ s .each v h ∙ ap flag (sym (cut-stays n t v k (apart v b)))
+          | yes z ↦ rw z (getD-set-other g′ (11 * n + p) (8 * n + p) 1 0 (omega arith) ∙ getD-set-same g (8 * n + p) x 0 (omega (arith, w .long, s .long)) ∙ ex)
+          | no b ↦ two (8 * n + v) (omega arith) (omega arith) ∙ s .each v h ∙ ap flag (sym (cut-stays n t v k (apart v b)))
         ];
         child = λ v h. elim (ℕ-discrete v p) [
-          | yes z ↦ rw z (getD-set-same g′ (10 * n + p) 1 0 (simp length-set (omega (arith, w .long, s .long))) ∙ sym (ap flag (child-grows n t p k own) ∙ flag-yes))
-          | no b ↦ two (10 * n + v) (omega arith) (omega arith) ∙ s .child v h ∙ ap flag (sym (child-stays n t v k (apart v b)))
+          | yes z ↦ rw z (getD-set-same g′ (11 * n + p) 1 0 (simp length-set (omega (arith, w .long, s .long))) ∙ sym (ap flag (child-grows n t p k own) ∙ flag-yes))
+          | no b ↦ two (11 * n + v) (omega arith) (omega arith) ∙ s .child v h ∙ ap flag (sym (child-stays n t v k (apart v b)))
         ];
       }
 

@@ -5,21 +5,20 @@ use mathlib.Core.Path.{_≡_, refl, sym, ap, _∙_, subst}
 use mathlib.Core.List.{List}
 use mathlib.Core.Logic.{inl, inr, _≢_}
 use native.Mathlib.Omega.{arith}
-use native.Mathlib.Decide.{ℕ-discrete, decLt}
+use native.Mathlib.Decide.{ℕ-discrete}
 use lib.ListN.{length, getD, set}
 use lib.Seq.{getD-set-same, getD-set-other}
 use Rattle.rules.specs.Forest.{up, Over}
 use Rattle.rules.specs.Tables.{par, lev}
 use Rattle.rules.specs.Reading.{above, lowest, rootOf}
 use Rattle.rules.specs.Laws.Search.{least-default, least-le, least-hit}
-use Rattle.rules.specs.Laws.Up.{up-zero, up-suc, up-rest, par-in, over-refl, over-par, over-trans, level-below}
+use Rattle.rules.specs.Laws.Up.{up-zero, up-suc, up-rest, par-in, child-lev, over-refl, over-par, over-trans, level-below}
 use Rattle.rules.specs.Laws.Reading.{above-test}
 use Rattle.state.specs.Layout.{forestIn}
 use Rattle.testing.specs.Whole.{Whole}
 use Rattle.testing.specs.Laws.Whole.{levels}
-use Rattle.asking.specs.Laws.Count.{root-parent}
 use Rattle.reaches.specs.Order.{Only}
-use Rattle.reaches.specs.Passes.{Ready, Sinkable, sunkAt, leastBelow, Sinks, fallenAt, Falls, Low, Numbered}
+use Rattle.reaches.specs.Passes.{Ready, Sinkable, sunkAt, leastBelow, Sinks, fallenAt, Falls, Low, Own}
 use Rattle.reaches.specs.Laws.Only.{only-refl, only-more, only-forest, only-whole}
 
 -- The least of a fragment and all below it.
@@ -60,17 +59,18 @@ module _ {n : ℕ} {f : List ℕ} (w : Whole n f) (value : ℕ → ℕ) where
         omega (arith, c, small u k, e)
 
 -- An order stays one where its words and the forest do.
-pub ready-by : (n : ℕ) {a b : ℕ} {f g : List ℕ} → 4 * n ≤ a → Only a b f g → ((j : ℕ) → j < n → getD g (7 * n + j) 0 ≡ getD f (7 * n + j) 0) → Ready n f → Ready n g
-ready-by n h k e r =
+pub ready-by : (n : ℕ) {a b : ℕ} {f g : List ℕ} → 7 * n ≤ a → Only a b f g → Ready n f → Ready n g
+ready-by n {a} {b} {f} {g} h k r =
     let o = r .ordered in
+    let e : (j : ℕ) → j < n → getD g (6 * n + j) 0 ≡ getD f (6 * n + j) 0 = λ j l. k .before (6 * n + j) (omega arith) in
     record {
-      whole = only-whole n h k (r .whole);
+      whole = only-whole n (omega arith) k (r .whole);
       ordered = record {
         turn = o .turn;
         some = λ j l. rw (e j l) (o .some j l);
         inside = o .inside;
         at = λ v l. e (o .turn v) (o .inside v l) ∙ o .at v l;
-        rises = rw (only-forest n h k) (o .rises);
+        rises = rw (only-forest n (omega arith) k) (o .rises);
       };
     }
 
@@ -81,7 +81,7 @@ pub record Sinking (n base i : ℕ) (f g : List ℕ) : Type 0 where
   pub great : (v : ℕ) → v < n → leastBelow n (forestIn n f) (λ u. getD f (base + u) 0) v ≤ getD g (base + v) 0
   pub turn : ℕ → ℕ
   pub inside : (v : ℕ) → v < n → turn v < n
-  pub at : (v : ℕ) → v < n → getD f (7 * n + turn v) 0 ≡ v
+  pub at : (v : ℕ) → v < n → getD f (6 * n + turn v) 0 ≡ v
   pub rises : (v : ℕ) → v < n → par (forestIn n f) v ≢ v → turn (par (forestIn n f) v) < turn v
   pub done : (v : ℕ) → v < n → i ≤ turn v → getD g (base + par (forestIn n f) v) 0 ≤ getD g (base + v) 0
 
@@ -102,27 +102,21 @@ sinking-none n base f s =
 -- The table stays fit for it.
 module _ {n base i : ℕ} {f g : List ℕ} (s : Sinkable n base f) (k : Sinking n base i f g) where
   sinking-forest : forestIn n g ≡ forestIn n f
-  sinking-forest = only-forest n (s .scratch) (k .only)
+  sinking-forest = only-forest n (omega (arith, s .scratch)) (k .only)
 
-  sinking-order : (j : ℕ) → j < n → getD g (7 * n + j) 0 ≡ getD f (7 * n + j) 0
-  sinking-order j h = elim (decLt (7 * n + j) base) [
-    | yes l ↦ k .only .before (7 * n + j) l
-    | no l ↦ k .only .behind (7 * n + j) (elim (decLt (7 * n + j) (base + n)) [
-      | yes m ↦ absurd (s .apart j (7 * n + j - base) h (omega arith) (omega arith))
-      | no m ↦ omega arith
-    ])
-  ]
+  sinking-order : (j : ℕ) → j < n → getD g (6 * n + j) 0 ≡ getD f (6 * n + j) 0
+  sinking-order j h = k .only .before (6 * n + j) (omega (arith, s .scratch))
 
-  pub sinking-next : (j : ℕ) → j < n → getD g (7 * n + j) 0 < n
+  pub sinking-next : (j : ℕ) → j < n → getD g (6 * n + j) 0 < n
   sinking-next j h = rw (sinking-order j h) (s .ready .ordered .some j h)
 
   pub sinking-fit : Sinkable n base g
-  sinking-fit = record { ready = ready-by n (s .scratch) (k .only) sinking-order (s .ready); scratch = s .scratch; inside = s .inside; apart = s .apart }
+  sinking-fit = record { ready = ready-by n (s .scratch) (k .only) (s .ready); scratch = s .scratch; inside = s .inside }
 
 -- One fragment more, at turn j.
 module _ {n base j : ℕ} {f g : List ℕ} (s : Sinkable n base f) (k : Sinking n base (j + 1) f g) (h : j < n) where
   -- v is there, p its parent, x what the parent's value becomes.
-  sinking-by : (v p x : ℕ) → v ≡ getD f (7 * n + j) 0 → v < n → p ≡ par (forestIn n f) v → p < n → x ≡ min (getD g (base + p) 0) (getD g (base + v) 0)
+  sinking-by : (v p x : ℕ) → v ≡ getD f (6 * n + j) 0 → v < n → p ≡ par (forestIn n f) v → p < n → x ≡ min (getD g (base + p) 0) (getD g (base + v) 0)
       → Sinking n base j f (set g (base + p) x)
   sinking-by v p x ev hv ep hp ex =
       let t = forestIn n f in
@@ -154,7 +148,7 @@ module _ {n base j : ℕ} {f g : List ℕ} (s : Sinkable n base f) (k : Sinking 
                 | no d ↦ omega (arith, a, ex, other u d, ap (λ (m : ℕ). getD g (base + m) 0) z)
               ]
           | no d ↦
-              let b : j ≢ k .turn u = λ y. d (sym (k .at u l) ∙ ap (λ (m : ℕ). getD f (7 * n + m) 0) (sym y) ∙ sym ev) in
+              let b : j ≢ k .turn u = λ y. d (sym (k .at u l) ∙ ap (λ (m : ℕ). getD f (6 * n + m) 0) (sym y) ∙ sym ev) in
               let c = k .done u l (omega arith) in
               elim (ℕ-discrete u p) [
                 | no r ↦ omega (arith, less (par t u), other u r, c)
@@ -173,7 +167,7 @@ module _ {n base j : ℕ} {f g : List ℕ} (s : Sinkable n base f) (k : Sinking 
         ];
       }
 
-  sinking-turn : (v : ℕ) → v ≡ getD g (7 * n + j) 0 → (g′ : List ℕ) → g′ ≡ sunkAt n base v g → Sinking n base j f g′
+  sinking-turn : (v : ℕ) → v ≡ getD g (6 * n + j) 0 → (g′ : List ℕ) → g′ ≡ sunkAt n base v g → Sinking n base j f g′
   unfolding sunkAt
   sinking-turn v e g′ eg =
       let t = forestIn n f in
@@ -183,7 +177,7 @@ module _ {n base j : ℕ} {f g : List ℕ} (s : Sinkable n base f) (k : Sinking 
       rw (eg, et) (sinking-by v p (min (getD g (base + p) 0) (getD g (base + v) 0)) (e ∙ sinking-order s k j h) hv refl (par-in (levels (s .ready .whole)) v hv) refl)
 
 -- The same by the turn before.
-pub sinking-again : {n base i : ℕ} {f g : List ℕ} → Sinkable n base f → Sinking n base i f g → (j : ℕ) → i ≡ j + 1 → j < n → (v : ℕ) → v ≡ getD g (7 * n + j) 0 → (g′ : List ℕ) → g′ ≡ sunkAt n base v g
+pub sinking-again : {n base i : ℕ} {f g : List ℕ} → Sinkable n base f → Sinking n base i f g → (j : ℕ) → i ≡ j + 1 → j < n → (v : ℕ) → v ≡ getD g (6 * n + j) 0 → (g′ : List ℕ) → g′ ≡ sunkAt n base v g
     → Sinking n base j f g′
 sinking-again {n} {base} {i} {f} {g} s k j e h = sinking-turn s (rw e at k) h
 
@@ -205,42 +199,50 @@ sunk-is n base v f p x e q = rw (q, e)
 
 -- From the first to the last: the fragments before turn i have their root's value.
 pub record Falling (n i : ℕ) (f g : List ℕ) : Type 0 where
-  pub only : Only (4 * n) (5 * n) f g
+  pub only : Only (7 * n) (8 * n) f g
   pub turn : ℕ → ℕ
   pub inside : (v : ℕ) → v < n → turn v < n
-  pub at : (v : ℕ) → v < n → getD f (7 * n + turn v) 0 ≡ v
+  pub at : (v : ℕ) → v < n → getD f (6 * n + turn v) 0 ≡ v
   pub rises : (v : ℕ) → v < n → par (forestIn n f) v ≢ v → turn (par (forestIn n f) v) < turn v
-  pub roots : (v : ℕ) → v < n → par (forestIn n f) v ≡ v → getD g (4 * n + v) 0 ≡ getD f (4 * n + v) 0
-  pub done : (v : ℕ) → v < n → turn v < i → getD g (4 * n + v) 0 ≡ getD f (4 * n + rootOf (forestIn n f) v) 0
+  pub roots : (v : ℕ) → v < n → par (forestIn n f) v ≡ v → getD g (7 * n + v) 0 ≡ getD f (7 * n + v) 0
+  pub done : (v : ℕ) → v < n → turn v < i → getD g (7 * n + v) 0 ≡ getD f (7 * n + rootOf (forestIn n f) v) 0
 
 pub falling-none : (n : ℕ) (f : List ℕ) → Ready n f → Falling n 0 f f
 falling-none n f r =
     let o = r .ordered in
-    record { only = only-refl (4 * n) (5 * n) f; turn = o .turn; inside = o .inside; at = o .at; rises = o .rises; roots = λ v h e. refl; done = λ v h l. absurd (omega arith) }
+    record { only = only-refl (7 * n) (8 * n) f; turn = o .turn; inside = o .inside; at = o .at; rises = o .rises; roots = λ v h e. refl; done = λ v h l. absurd (omega arith) }
 
+-- The root of a root, and of a child.
 root-own : (n : ℕ) (f : List ℕ) (v : ℕ) → par (forestIn n f) v ≡ v → rootOf (forestIn n f) v ≡ v
 unfolding rootOf
 root-own n f v e = up-rest (par (forestIn n f)) (lev (forestIn n f) v) v e
 
-module _ {n i : ℕ} {f g : List ℕ} (r : Ready n f) (k : Falling n i f g) where
-  falling-order : (j : ℕ) → j < n → getD g (7 * n + j) 0 ≡ getD f (7 * n + j) 0
-  falling-order j h = k .only .behind (7 * n + j) (omega arith)
+root-parent : {n : ℕ} {f : List ℕ} → Whole n f → (v : ℕ) → v < n → (par (forestIn n f) v ≡ v → ⊥) → rootOf (forestIn n f) (par (forestIn n f) v) ≡ rootOf (forestIn n f) v
+unfolding rootOf
+root-parent {n} {f} w v h d =
+    let t = forestIn n f in
+    let e : lev t v ≡ suc (lev t (par t v)) = child-lev (levels w) v h d in
+    sym (up-suc (par t) (lev t (par t v)) v) ∙ ap (λ (k : ℕ). up (par t) k v) (sym e)
 
-  pub falling-next : (j : ℕ) → j < n → getD g (7 * n + j) 0 < n
+module _ {n i : ℕ} {f g : List ℕ} (r : Ready n f) (k : Falling n i f g) where
+  falling-order : (j : ℕ) → j < n → getD g (6 * n + j) 0 ≡ getD f (6 * n + j) 0
+  falling-order j h = k .only .before (6 * n + j) (omega arith)
+
+  pub falling-next : (j : ℕ) → j < n → getD g (6 * n + j) 0 < n
   falling-next j h = rw (falling-order j h) (r .ordered .some j h)
 
   pub falling-fit : Ready n g
-  falling-fit = ready-by n (omega arith) (k .only) falling-order r
+  falling-fit = ready-by n (omega arith) (k .only) r
 
   -- v is at turn i, p its parent, x the parent's value.
-  falling-by : i < n → (v p x : ℕ) → v ≡ getD f (7 * n + i) 0 → v < n → p ≡ par (forestIn n f) v → p < n → x ≡ getD g (4 * n + p) 0 → Falling n (i + 1) f (set g (4 * n + v) x)
+  falling-by : i < n → (v p x : ℕ) → v ≡ getD f (6 * n + i) 0 → v < n → p ≡ par (forestIn n f) v → p < n → x ≡ getD g (7 * n + p) 0 → Falling n (i + 1) f (set g (7 * n + v) x)
   falling-by h v p x ev hv ep hp ex =
       let t = forestIn n f in
-      let long : 4 * n + v < length g = omega (arith, r .whole .long, k .only .long) in
-      let same : getD (set g (4 * n + v) x) (4 * n + v) 0 ≡ x = getD-set-same g (4 * n + v) x 0 long in
-      let other : (u : ℕ) → u ≢ v → getD (set g (4 * n + v) x) (4 * n + u) 0 ≡ getD g (4 * n + u) 0 = λ u d. getD-set-other g (4 * n + v) (4 * n + u) x 0 (omega arith) in
+      let long : 7 * n + v < length g = omega (arith, r .whole .long, k .only .long) in
+      let same : getD (set g (7 * n + v) x) (7 * n + v) 0 ≡ x = getD-set-same g (7 * n + v) x 0 long in
+      let other : (u : ℕ) → u ≢ v → getD (set g (7 * n + v) x) (7 * n + u) 0 ≡ getD g (7 * n + u) 0 = λ u d. getD-set-other g (7 * n + v) (7 * n + u) x 0 (omega arith) in
       record {
-        only = only-more (k .only) (4 * n + v) x (omega arith) (omega arith);
+        only = only-more (k .only) (7 * n + v) x (omega arith) (omega arith);
         turn = k .turn;
         inside = k .inside;
         at = k .at;
@@ -248,24 +250,24 @@ module _ {n i : ℕ} {f g : List ℕ} (r : Ready n f) (k : Falling n i f g) wher
         roots = λ u l e. elim (ℕ-discrete u v) [
           | yes z ↦
               let q : p ≡ v = ep ∙ ap (par t) (sym z) ∙ e ∙ z in
-              rw z (same ∙ ex ∙ ap (λ (y : ℕ). getD g (4 * n + y) 0) q ∙ k .roots v hv (sym ep ∙ q))
+              rw z (same ∙ ex ∙ ap (λ (y : ℕ). getD g (7 * n + y) 0) q ∙ k .roots v hv (sym ep ∙ q))
           | no d ↦ other u d ∙ k .roots u l e
         ];
         done = λ u l q. elim (ℕ-discrete u v) [
           | yes z ↦ rw z (same ∙ ex ∙ (elim (ℕ-discrete (par t v) v) [
-            | yes y ↦ ap (λ (m : ℕ). getD g (4 * n + m) 0) (ep ∙ y) ∙ k .roots v hv y ∙ ap (λ (m : ℕ). getD f (4 * n + m) 0) (sym (root-own n f v y))
+            | yes y ↦ ap (λ (m : ℕ). getD g (7 * n + m) 0) (ep ∙ y) ∙ k .roots v hv y ∙ ap (λ (m : ℕ). getD f (7 * n + m) 0) (sym (root-own n f v y))
             | no y ↦
                 let m : k .turn p < k .turn v = rw (← ep) at (k .rises v hv y) in
                 let b : k .turn v < i + 1 = rw z at q in
-                k .done p hp (omega arith) ∙ ap (λ (e : ℕ). getD f (4 * n + e) 0) (ap (rootOf t) ep ∙ root-parent (r .whole) v hv y)
+                k .done p hp (omega arith) ∙ ap (λ (e : ℕ). getD f (7 * n + e) 0) (ap (rootOf t) ep ∙ root-parent (r .whole) v hv y)
           ]))
           | no d ↦
-              let b : i ≢ k .turn u = λ y. d (sym (k .at u l) ∙ ap (λ (m : ℕ). getD f (7 * n + m) 0) (sym y) ∙ sym ev) in
+              let b : i ≢ k .turn u = λ y. d (sym (k .at u l) ∙ ap (λ (m : ℕ). getD f (6 * n + m) 0) (sym y) ∙ sym ev) in
               other u d ∙ k .done u l (omega arith)
         ];
       }
 
-  pub falling-turn : i < n → (v : ℕ) → v ≡ getD g (7 * n + i) 0 → (g′ : List ℕ) → g′ ≡ fallenAt n v g → Falling n (i + 1) f g′
+  pub falling-turn : i < n → (v : ℕ) → v ≡ getD g (6 * n + i) 0 → (g′ : List ℕ) → g′ ≡ fallenAt n v g → Falling n (i + 1) f g′
   unfolding fallenAt
   falling-turn h v e g′ eg =
       let t = forestIn n f in
@@ -276,24 +278,24 @@ module _ {n i : ℕ} {f g : List ℕ} (r : Ready n f) (k : Falling n i f g) wher
 pub falling-all : {n i : ℕ} {f g : List ℕ} → i ≡ n → Falling n i f g → Falls n f g
 falling-all e k = record { only = k .only; each = λ v h. k .done v h (omega (arith, k .inside v h)) }
 
-pub fallen-is : (n v : ℕ) (f : List ℕ) (p : ℕ) → p ≡ par (forestIn n f) v → set f (4 * n + v) (getD f (4 * n + p) 0) ≡ fallenAt n v f
+pub fallen-is : (n v : ℕ) (f : List ℕ) (p : ℕ) → p ≡ par (forestIn n f) v → set f (7 * n + v) (getD f (7 * n + p) 0) ≡ fallenAt n v f
 unfolding fallenAt
 fallen-is n v f p e = rw e
 
 -- The values to begin with.
 pub low-none : (n : ℕ) (f : List ℕ) → Low n 0 f f
-low-none n f = record { only = only-refl (8 * n) (9 * n) f; each = λ v h. absurd (omega arith) }
+low-none n f = record { only = only-refl (10 * n) (11 * n) f; each = λ v h. absurd (omega arith) }
 
 module _ {n k : ℕ} {f g : List ℕ} (w : Whole n f) (l : Low n k f g) (h : k < n) (x : ℕ) (e : x ≡ lowest (forestIn n g) k) where
   low-own : x ≡ lowest (forestIn n f) k
   low-own = e ∙ ap (λ t. lowest t k) (only-forest n (omega arith) (l .only))
 
-  pub low-turn : Low n (k + 1) f (set g (8 * n + k) x)
+  pub low-turn : Low n (k + 1) f (set g (10 * n + k) x)
   low-turn = record {
-    only = only-more (l .only) (8 * n + k) x (omega arith) (omega arith);
+    only = only-more (l .only) (10 * n + k) x (omega arith) (omega arith);
     each = λ v i. elim (ℕ-discrete v k) [
-      | yes z ↦ rw z (getD-set-same g (8 * n + k) x 0 (omega (arith, w .long, l .only .long)) ∙ low-own)
-      | no d ↦ getD-set-other g (8 * n + k) (8 * n + v) x 0 (omega arith) ∙ l .each v (omega arith)
+      | yes z ↦ rw z (getD-set-same g (10 * n + k) x 0 (omega (arith, w .long, l .only .long)) ∙ low-own)
+      | no d ↦ getD-set-other g (10 * n + k) (10 * n + v) x 0 (omega arith) ∙ l .each v (omega arith)
     ];
   }
 
@@ -304,17 +306,17 @@ low-small {n} {k} {f} w l h x e = omega (arith, low-own w l h x e, level-below (
 pub low-all : {n k : ℕ} {f g : List ℕ} → k ≡ n → Low n k f g → Low n n f g
 low-all {n} {k} {f} {g} e l = rw e at l
 
-pub numbered-none : (n : ℕ) (f : List ℕ) → Numbered n 0 f f
-numbered-none n f = record { only = only-refl (4 * n) (5 * n) f; each = λ v h. absurd (omega arith) }
+pub own-none : (n : ℕ) (f : List ℕ) → Own n 0 f f
+own-none n f = record { only = only-refl (7 * n) (8 * n) f; each = λ v h. absurd (omega arith) }
 
-pub numbered-turn : {n k : ℕ} {f g : List ℕ} → Whole n f → Numbered n k f g → k < n → Numbered n (k + 1) f (set g (4 * n + k) k)
-numbered-turn {n} {k} {f} {g} w m h = record {
-  only = only-more (m .only) (4 * n + k) k (omega arith) (omega arith);
+pub own-turn : {n k : ℕ} {f g : List ℕ} → Whole n f → Own n k f g → k < n → Own n (k + 1) f (set g (7 * n + k) k)
+own-turn {n} {k} {f} {g} w m h = record {
+  only = only-more (m .only) (7 * n + k) k (omega arith) (omega arith);
   each = λ v i. elim (ℕ-discrete v k) [
-    | yes z ↦ rw z (getD-set-same g (4 * n + k) k 0 (omega (arith, w .long, m .only .long)))
-    | no d ↦ getD-set-other g (4 * n + k) (4 * n + v) k 0 (omega arith) ∙ m .each v (omega arith)
+    | yes z ↦ rw z (getD-set-same g (7 * n + k) k 0 (omega (arith, w .long, m .only .long)))
+    | no d ↦ getD-set-other g (7 * n + k) (7 * n + v) k 0 (omega arith) ∙ m .each v (omega arith)
   ];
 }
 
-pub numbered-all : {n k : ℕ} {f g : List ℕ} → k ≡ n → Numbered n k f g → Numbered n n f g
-numbered-all {n} {k} {f} {g} e m = rw e at m
+pub own-all : {n k : ℕ} {f g : List ℕ} → k ≡ n → Own n k f g → Own n n f g
+own-all {n} {k} {f} {g} e m = rw e at m

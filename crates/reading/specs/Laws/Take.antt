@@ -12,6 +12,7 @@ use Rattle.base.specs.Answer.{gives, refuses}
 use Rattle.base.specs.Link.{Link}
 use Rattle.rules.specs.Tables.{Tables}
 use Rattle.rules.specs.Reading.{readLinks}
+use Rattle.rules.specs.Laws.Tables.{SameForest}
 use Rattle.lists.specs.List.{blockLinks, scanBlock}
 use Rattle.lists.specs.Laws.Block.{scan-gives, scan-refuses}
 use Rattle.lists.specs.Theorems.{accepted-count}
@@ -21,12 +22,14 @@ use Rattle.state.specs.Call.{headRefusal, leaves, moved}
 use Rattle.state.specs.Take.{tell, taken, takeIn}
 use Rattle.state.specs.Answers.{takenTold}
 use Rattle.state.specs.Laws.Answers.{headed-refused, headed-passed}
+use Rattle.state.specs.Laws.Behind.{behind-same}
 use Rattle.state.specs.Laws.Lay.{frag-kept, held-laid}
 use Rattle.state.specs.declared.State.{State}
 use Rattle.state.specs.declared.Taken.the-variants.{On, Refused as Untaken}
 use Rattle.reading.specs.Tell.{crossedIn, Reads, Given, linksOf}
 use Rattle.testing.specs.Laws.Head.{Passed}
 use Rattle.reading.specs.Pass.{told}
+use Rattle.reading.specs.Laws.Tell.{kept-forest}
 
 -- What the scan of a block says of its links.
 pub record Scanned (n entries : ℕ) (block : List ℕ) (count : ℕ) : Type 0 where
@@ -81,8 +84,12 @@ module _ (s : State) (f h block : List ℕ) (r : ℕ) (e : r ≡ headRefusal isR
       unfolding tell
       told-is = rw (p .settled, pick-false) (sym reads)
 
-      frag-left : f′ ≡ fragOf (s .n) (tablesIn (told s crossed entries) f′ h) f
-      frag-left = frag-kept (told s crossed entries) f f′ h _ refl (omega (arith, p .bounds .frag-long, g .kept .long)) (p .found .scratch) (g .kept .rest)
+      frag-left : f′ ≡ fragOf (s .stage) (s .n) (tablesIn (told s crossed entries) f′ h) f
+      unfolding tablesIn
+      frag-left =
+          let e = kept-forest (g .kept) in
+          let same : SameForest (tablesIn s f h) (tablesIn (told s crossed entries) f′ h) = record { same-parent = sym (e .same-parent); same-level = sym (e .same-level) } in
+          frag-kept (told s crossed entries) f f′ h _ refl (omega (arith, p .bounds .frag-long, g .kept .long)) (p .found .back ∙ behind-same same (s .stage) (s .n)) (g .kept .rest)
 
       held-left : h ≡ heldOf (s .n) (s .k) (tablesIn (told s crossed entries) f′ h) h
       held-left = held-laid (told s crossed entries) f′ h h _ refl (p .found .agrees .held-room) (p .bounds .held-long) (p .found .unused) refl

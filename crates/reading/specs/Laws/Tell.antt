@@ -6,23 +6,27 @@ use mathlib.Core.Bool.{Bool, true, false, _||_, not}
 use mathlib.Core.List.{List, [], _∷_}
 use mathlib.Core.Logic.{inl, inr}
 use native.Mathlib.Omega.{arith}
+use native.Mathlib.Decide.{decLe}
+use lib.Dec.{leb}
 use borrow.Author.Tests.{eq-eqb, ne-eqb}
-use lib.ListN.{length, getD, set, length-set}
-use lib.Seq.{take-set-le, drop-set-lt}
-use Rattle.base.specs.Pick.{pick-true, pick-false}
+use lib.ListN.{length, getD, set, take, drop, length-set}
+use lib.Seq.{take-set-le, drop-set-lt, drop-drop}
+use Rattle.base.specs.Pick.{pick-true, pick-false, tests}
 use Rattle.base.specs.Answer.{gives, refuses}
 use Rattle.base.specs.Link.{Link}
 use Rattle.rules.specs.Tables.{par, lev, putCrossed}
 use Rattle.rules.specs.Reading.{above, hear, readLink, readLinks}
 use Rattle.rules.specs.Laws.Tables.{SameForest, same-par, same-lev, same-placed, standing-same}
-use Rattle.state.specs.Layout.{stored, tablesIn, forestIn}
+use Rattle.rules.specs.Laws.Numbers.{turn-end}
+use Rattle.rules.specs.Laws.SameNumbers.{same-turn, same-end, same-atTurn}
+use Rattle.state.specs.Layout.{stored, section, tablesIn, forestIn, turnIn, endIn, aboveIn}
 use Rattle.state.specs.Laws.Layout.{section-same, section-length, note-word, store-note, store-mark, store-crossed}
-use Rattle.testing.specs.Whole.{Whole}
+use Rattle.testing.specs.Whole.{Whole, Numbered}
 use Rattle.lists.specs.List.{fragmentsMost, linksAt, blockLinks, scanLink}
 use Rattle.lists.specs.Laws.Link.{link-accepted, link-read, link-told}
 use Rattle.lists.specs.Laws.Block.{walked, next-given}
 use Rattle.reading.specs.Tell.{passing, crossedIn, Kept, Leaves, Reads, Given, linksOf}
-use Rattle.testing.specs.Laws.Whole.{word-lev}
+use Rattle.testing.specs.Laws.Whole.{levels, word-lev, above-numbered}
 
 pub kept-refl : (n : ℕ) (f : List ℕ) → Kept n f f
 kept-refl n f = record { front = refl; rest = refl; long = refl }
@@ -55,6 +59,24 @@ kept-whole {n} {f} {g} w k =
       long = omega arith;
       standing = standing-same e (section-length n g 2 (omega arith)) (section-length n g 3 (omega arith)) (w .standing);
       all = λ v h. rw (same-placed e) (w .all v h);
+    }
+
+-- So are the words behind notes and marks.
+kept-section : {n : ℕ} {f g : List ℕ} → Kept n f g → (j : ℕ) → section n (stored + j) g ≡ section n (stored + j) f
+unfolding section
+kept-section {n} {f} {g} k j = ap (λ l. take n l) (past g ∙ ap (λ l. drop (j * n) l) (k .rest) ∙ sym (past f))
+  where
+    past : (l : List ℕ) → drop ((stored + j) * n) l ≡ drop (j * n) (drop (stored * n) l)
+    past l = let e : (stored + j) * n ≡ stored * n + j * n = omega arith in ap (λ i. drop i l) e ∙ sym (drop-drop (j * n) (stored * n) l)
+
+pub kept-numbered : {n : ℕ} {f g : List ℕ} → Numbered n f → Kept n f g → Numbered n g
+kept-numbered {n} {f} {g} N k =
+    let e = kept-forest k in
+    record {
+      whole = kept-whole (N .whole) k;
+      turns = λ v h. ap (λ l. getD l v 0) (kept-section k 0) ∙ N .turns v h ∙ sym (same-turn e n v);
+      ends = λ v h. ap (λ l. getD l v 0) (kept-section k 1) ∙ N .ends v h ∙ sym (same-end e n v);
+      whose = λ i h. ap (λ l. getD l i 0) (kept-section k 2) ∙ N .whose i h ∙ sym (same-atTurn e n i);
     }
 
 -- A false mark is no part of the forest.
@@ -92,11 +114,24 @@ flip : (x y : Bool) → not x ≡ y → x ≡ not y
 flip true y e = rw (← e)
 flip false y e = rw (← e)
 
-pub joined-first : (x y : Bool) → x ≡ true → false ≡ not (x || y)
-joined-first x y e = rw e
+-- Two fragments are apart where those below the one with the earlier turn, x of a and y of b, end before the other's.
+module _ {n : ℕ} {f : List ℕ} (N : Numbered n f) (a b : ℕ) (ha : a < n) (hb : b < n) (x y : ℕ) (ex : x ≡ turnIn n f a) (ey : y ≡ turnIn n f b) (e : ℕ) where
+  pub apart-behind : x ≤ y → e ≡ endIn n f a → leb e y ≡ not (above (forestIn n f) a b || above (forestIn n f) b a)
+  unfolding aboveIn
+  apart-behind l q =
+      let z : x < e = omega (arith, N .turns a ha, N .ends a ha, turn-end n (forestIn n f) (levels (N .whole)) a ha) in
+      rw (← above-numbered n f N a b ha hb, ← above-numbered n f N b a hb ha, ← ex, ← ey, ← q) (elim (decLe e y) [
+        | yes g ↦ let h : x < y = omega arith in simp tests
+        | no g ↦ let h : y < e = omega arith in simp tests
+      ])
 
-pub joined-second : (x y z : Bool) → x ≡ false → z ≡ y → not z ≡ not (x || y)
-joined-second x y z e g = rw (e, g)
+  pub apart-before : y < x → e ≡ endIn n f b → leb e x ≡ not (above (forestIn n f) a b || above (forestIn n f) b a)
+  unfolding aboveIn
+  apart-before l q =
+      rw (← above-numbered n f N a b ha hb, ← above-numbered n f N b a hb ha, ← ex, ← ey, ← q) (elim (decLe e x) [
+        | yes g ↦ let h : y ≤ x = omega arith in simp tests
+        | no g ↦ let h : y ≤ x = omega arith in let k : x < e = omega arith in simp tests
+      ])
 
 -- One link is read: both ends hear of it, and the pass is false where neither is above the other.
 module _ {n : ℕ} {f g h : List ℕ} (a b : ℕ) (one : Leaves n f g (hear a b)) (two : Leaves n g h (hear b a)) (c : Bool) where

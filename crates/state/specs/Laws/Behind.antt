@@ -60,7 +60,7 @@ module _ (n : ℕ) (t : Tables) where
   numbers-length = simp (length-append, table-length) (omega arith)
 
   module _ (g : Stage) where
-    behind-numbered : T (isNumbered g) → behind g n t ≡ numbersOf n t ++ replicate (9 * n) 0
+    pub behind-numbered : T (isNumbered g) → behind g n t ≡ numbersOf n t ++ replicate (9 * n) 0
     unfolding behind storedIn
     behind-numbered b = rw (T-true (isNumbered g) b, pick-true, pick-true)
 
@@ -185,8 +185,8 @@ module _ (s : State) (t : Tables) (f : List ℕ) where
           ∙ section-next n 1 (table (turn n t) n) _ (table-length (turn n t) n) ∙ section-next n 0 (table (end n t) n) _ (table-length (end n t) n)
           ∙ section-first n (table (atTurn n t) n) _ (table-length (atTurn n t) n)
 
-      scratch : take (9 * n) (drop (7 * n) f) ≡ replicate (9 * n) 0
-      scratch =
+      pub numbered-zero : take (9 * n) (drop (7 * n) f) ≡ replicate (9 * n) 0
+      numbered-zero =
           sym (past-three n (part 4) (part 5) (part 6) _ (long 4 (omega arith)) (long 5 (omega arith)) (long 6 (omega arith))) ∙ ap (λ r. drop (3 * n) r) both
           ∙ past-three n (table (turn n t) n) (table (end n t) n) (table (atTurn n t) n) _ (table-length (turn n t) n) (table-length (end n t) n) (table-length (atTurn n t) n)
 
@@ -200,7 +200,7 @@ module _ (s : State) (t : Tables) (f : List ℕ) where
     pub behind-made : rest n f ≡ behind (s .stage) n t → T (allZero free) × T (numbersFit s t f)
     behind-made e = (
       elim (T-dec (isNumbered (s .stage))) [
-        | yes b ↦ rw (free-numbered b, scratch e b) (zeros-pass (9 * n))
+        | yes b ↦ rw (free-numbered b, numbered-zero e b) (zeros-pass (9 * n))
         | no b ↦ rw (free-plain b) (plain-zero (s .stage) n t f b e)
       ],
       numbers-made (words-numbers e),

@@ -18,10 +18,10 @@ loop-holds : tie.Need-loop-holds Inv-loop μ-loop
 loop-holds c = (omega arith, low-none _ _)
 
 cast-frag : tie.Need-cast-frag Inv-loop μ-loop
-cast-frag c = let l = c .before .before .before .loop in omega (arith, low-small (c .before .before .before .before .before .pre .whole) (l .inv .1) (omega arith) _ (c .low .ensures), c .before .before .before .before .before .pre .whole .few)
+cast-frag c = let l = c .before .before .before .loop in omega (arith, low-small (c .before .before .before .before .before .pre .whole) (l .inv .1) (omega arith) _ (c .low-of .ensures), c .before .before .before .before .before .pre .whole .few)
 
 loop-again : tie.Need-loop-again Inv-loop μ-loop
-loop-again c = let l = c .before .before .before .loop in (omega arith, low-turn (c .before .before .before .before .before .pre .whole) (l .inv .1) (omega arith) _ (c .low .ensures))
+loop-again c = let l = c .before .before .before .loop in (omega arith, low-turn (c .before .before .before .before .before .pre .whole) (l .inv .1) (omega arith) _ (c .low-of .ensures))
 
 returns : tie.Need-returns Inv-loop μ-loop
 returns c = low-all (omega arith) (c .before .loop .inv .1)

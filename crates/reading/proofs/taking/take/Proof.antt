@@ -6,7 +6,8 @@ use native.Mathlib.Omega.{arith}
 use Rattle.lists.specs.Answers.{toldCount}
 use Rattle.state.specs.Test.{isReading}
 use Rattle.testing.specs.Laws.Head.{head-is, head-passed}
-use Rattle.testing.specs.Laws.Whole.{passed-whole}
+use Rattle.testing.specs.Laws.Whole.{passed-numbered}
+use Rattle.reading.specs.Laws.Pass.{reading-numbered}
 use Rattle.reading.specs.Laws.Take.{scanned, scanned-few, take-refused, take-bad, take-on}
 use borrow.Author.Needs.{needs}
 use Rattle.reading.proofs.taking.take.Statement.{statement}
@@ -22,7 +23,10 @@ cast-scan : tie.Need-cast-scan
 cast-scan c = let p = head-passed isReading refl _ _ _ _ _ (c .before .before .before .before .before .is-reading .ensures) (c .before .before .head .ensures) (omega arith) in omega (arith, p .bounds .fragments)
 
 tell-requires : tie.Need-tell-requires
-tell-requires c κs = (passed-whole (head-passed isReading refl _ _ _ _ _ (c .before .before .before .before .before .before .before .before .before .before .is-reading .ensures) (c .before .before .before .before .before .before .before .head .ensures) (omega arith)), scanned _ _ _ _ (sym (ap toldCount (c .before .before .count .given .1)) ∙ c .before .before .before .before .scan .ensures) .given)
+tell-requires c κs =
+    let k = c .before .before .before .before .before .before .before .before .before .before .is-reading .ensures in
+    let e = c .before .before .before .before .before .before .before .head .ensures in
+    (passed-numbered (head-passed isReading refl _ _ _ _ _ k e (omega arith)) (reading-numbered _ _ _ _ (head-is isReading refl _ _ _ _ _ k e) (omega arith)), scanned _ _ _ _ (sym (ap toldCount (c .before .before .count .given .1)) ∙ c .before .before .before .before .scan .ensures) .given)
 
 add-total : tie.Need-add-total
 add-total c = let p = head-passed isReading refl _ _ _ _ _ (c .before .before .before .before .before .before .before .before .before .before .before .before .before .before .before .is-reading .ensures) (c .before .before .before .before .before .before .before .before .before .before .before .before .head .ensures) (omega arith) in omega (arith, scanned-few (scanned _ _ _ _ (sym (ap toldCount (c .before .before .before .before .before .before .before .count .given .1)) ∙ c .before .before .before .before .before .before .before .before .before .scan .ensures)), c .before .wide .ensures .says, p .found .agrees .entries-few)

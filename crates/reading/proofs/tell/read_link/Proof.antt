@@ -8,7 +8,7 @@ use Rattle.reading.proofs.tell.read_link.Tie as tie
 hear-requires-2 : tie.Need-hear-requires-2
 hear-requires-2 c κs =
     let p = c .before .before .before .before .before .before .before .before .pre in
-    (kept-whole (p .0) (c .before .before .before .hear .ensures .kept), p .2, p .1)
+    (kept-whole (p .0 .whole) (c .before .before .before .hear .ensures .kept), p .2, p .1)
 
 returns : tie.Need-returns
 returns c =

@@ -7,7 +7,7 @@ use borrow.Author.Needs.{needs}
 use lib.ListN.{length}
 use Rattle.lists.specs.Laws.Link.{link-told}
 use Rattle.lists.specs.Answers.{toldLink}
-use Rattle.reading.specs.Laws.Tell.{Telling, telling-starts, telling-on, telling-ends, telling-whole, kept-whole}
+use Rattle.reading.specs.Laws.Tell.{Telling, telling-starts, telling-on, telling-ends, telling-whole, kept-numbered}
 use Rattle.reading.proofs.tell.tell.Statement.{statement}
 use Rattle.reading.proofs.tell.tell.Tie as tie
 
@@ -23,7 +23,7 @@ loop-holds c = telling-starts _ _ _ _ _ (c .before .before .pre .1)
 read-link-requires : tie.Need-read-link-requires Inv-loop μ-loop
 read-link-requires c κs =
     let x = link-told _ _ _ _ _ (sym (c .before .before .before .before .before .before .link-at .ensures) ∙ ap toldLink (c .before .before .before .before .a .given .1)) in
-    (kept-whole (c .before .before .before .before .before .before .before .before .before .before .before .pre .0) (c .before .before .before .before .before .before .before .before .loop .inv .kept), omega arith, omega arith)
+    (kept-numbered (c .before .before .before .before .before .before .before .before .before .before .before .pre .0) (c .before .before .before .before .before .before .before .before .loop .inv .kept), omega arith, omega arith)
 
 add-told : tie.Need-add-told Inv-loop μ-loop
 add-told c = let x = link-told _ _ _ _ _ (sym (c .before .before .before .before .before .before .before .before .before .link-at .ensures) ∙ ap toldLink (c .before .before .before .before .before .before .before .a .given .1)) in omega arith
@@ -38,7 +38,7 @@ loop-again c =
     _ _ (c .before .before .before .before .wide .ensures .says) (c .before .before .before .wide2 .ensures .says) _ _ (c .before .before .read-link .ensures)
 
 returns : tie.Need-returns Inv-loop μ-loop
-returns c = telling-whole (c .before .before .before .before .before .loop .inv) (c .before .before .before .before .before .before .before .before .pre .0 .few) (c .before .before .before .before .loop-test .taken) _ _ (sym (c .before .before .before .link-at .ensures) ∙ ap toldLink (c .before .bad .given .1))
+returns c = telling-whole (c .before .before .before .before .before .loop .inv) (c .before .before .before .before .before .before .before .before .pre .0 .whole .few) (c .before .before .before .before .loop-test .taken) _ _ (sym (c .before .before .before .link-at .ensures) ∙ ap toldLink (c .before .bad .given .1))
 
 returns-2 : tie.Need-returns-2 Inv-loop μ-loop
 returns-2 c = telling-ends (c .before .loop .inv) (omega arith)

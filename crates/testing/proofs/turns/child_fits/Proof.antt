@@ -6,26 +6,11 @@ use borrow.Author.Needs.{needs}
 use Rattle.testing.proofs.turns.child_fits.Statement.{statement}
 use Rattle.testing.proofs.turns.child_fits.Tie as tie
 
-turn-at-requires : tie.Need-turn-at-requires
-turn-at-requires c κs = search needs
-
-turn-at-requires-2 : tie.Need-turn-at-requires-2
-turn-at-requires-2 c κs = search needs
-
 returns : tie.Need-returns
 returns c = child-early _ _ _ _ _ _ _ (c .before .before .turn-at .ensures .says) (c .before .turn-at2 .ensures .says) (omega arith)
 
-end-at-requires : tie.Need-end-at-requires
-end-at-requires c κs = search needs
-
-end-at-requires-2 : tie.Need-end-at-requires-2
-end-at-requires-2 c κs = search needs
-
 returns-2 : tie.Need-returns-2
 returns-2 c = child-last _ _ _ _ _ _ _ (c .before .before .before .before .before .turn-at .ensures .says) (c .before .before .before .before .turn-at2 .ensures .says) (omega arith) _ (c .before .before .end-at .ensures .says) _ (c .before .end-at2 .ensures .says) (omega arith)
-
-rises-requires : tie.Need-rises-requires
-rises-requires c κs = search needs
 
 returns-3 : tie.Need-returns-3
 returns-3 c = child-next _ _ _ _ _ _ _ (c .before .before .before .before .before .before .turn-at .ensures .says) (c .before .before .before .before .before .turn-at2 .ensures .says) (omega arith) _ (c .before .before .before .end-at .ensures .says) _ (c .before .before .end-at2 .ensures .says) (omega arith) _ (c .rises .ensures)
@@ -34,11 +19,11 @@ pub child-fits-spec : {M : Type 1} → statement M
 child-fits-spec =
     tie.close
     (tie.spec
-    turn-at-requires
-    turn-at-requires-2
+    (λ c κs. search needs)
+    (λ c κs. search needs)
     returns
-    end-at-requires
-    end-at-requires-2
+    (λ c κs. search needs)
+    (λ c κs. search needs)
     returns-2
-    rises-requires
+    (λ c κs. search needs)
     returns-3)

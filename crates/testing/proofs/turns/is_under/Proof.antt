@@ -9,18 +9,12 @@ use Rattle.testing.proofs.turns.is_under.Tie as tie
 returns : tie.Need-returns
 returns c = under-late _ _ _ _ _ (omega arith)
 
-whose-at-requires : tie.Need-whose-at-requires
-whose-at-requires c κs = search needs
-
 returns-2 : tie.Need-returns-2
 returns-2 c = under-none _ _ _ _ _ (omega arith) _ (c .before .whose-at .ensures .says) (omega arith)
-
-parent-at-requires : tie.Need-parent-at-requires
-parent-at-requires c κs = search needs
 
 returns-3 : tie.Need-returns-3
 returns-3 c = under-so _ _ _ _ _ (omega arith) _ (c .before .before .whose-at .ensures .says) (omega arith) _ (c .parent-at .ensures .says)
 
 pub is-under-spec : {M : Type 1} → statement M
 is-under-spec =
-    tie.close (tie.spec returns whose-at-requires returns-2 parent-at-requires returns-3)
+    tie.close (tie.spec returns (λ c κs. search needs) returns-2 (λ c κs. search needs) returns-3)

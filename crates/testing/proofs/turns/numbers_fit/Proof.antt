@@ -22,17 +22,8 @@ abbrev μ-loop : tie.MeasureT-loop
 loop-holds : tie.Need-loop-holds Inv-loop μ-loop
 loop-holds c = (omega arith, every-none _)
 
-words-fit-requires : tie.Need-words-fit-requires Inv-loop μ-loop
-words-fit-requires c κs = search needs
-
 returns : tie.Need-returns Inv-loop μ-loop
 returns c = every-fails _ (c .before .before .before .loop .v) _ (omega arith) (sym (c .before .words-fit .ensures) ∙ not-true _ (c .if1 .taken))
-
-add-v : tie.Need-add-v Inv-loop μ-loop
-add-v c = search needs
-
-loop-less : tie.Need-loop-less Inv-loop μ-loop
-loop-less c = search needs
 
 loop-again : tie.Need-loop-again Inv-loop μ-loop
 loop-again c = let l = c .before .before .before .loop in (omega arith, every-more _ (l .v) (l .inv .1) (sym (c .before .words-fit .ensures) ∙ not-false _ (c .if1 .left)))
@@ -47,9 +38,9 @@ numbers-fit-spec =
     Inv-loop
     μ-loop
     loop-holds
-    words-fit-requires
+    (λ c κs. search needs)
     returns
-    add-v
-    loop-less
+    (λ c. search needs)
+    (λ c. search needs)
     loop-again
     returns-2)

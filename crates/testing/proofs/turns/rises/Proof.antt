@@ -6,17 +6,11 @@ use borrow.Author.Needs.{needs}
 use Rattle.testing.proofs.turns.rises.Statement.{statement}
 use Rattle.testing.proofs.turns.rises.Tie as tie
 
-whose-at-requires : tie.Need-whose-at-requires
-whose-at-requires c κs = search needs
-
 returns : tie.Need-returns
 returns c = rises-not _ _ _ _ _ _ _ (c .before .whose-at .ensures .says) (omega arith)
-
-is-under-requires : tie.Need-is-under-requires
-is-under-requires c κs = search needs
 
 returns-2 : tie.Need-returns-2
 returns-2 c = rises-so _ _ _ _ _ _ _ (c .before .before .whose-at .ensures .says) (omega arith) _ (c .is-under .ensures)
 
 pub rises-spec : {M : Type 1} → statement M
-rises-spec = tie.close (tie.spec whose-at-requires returns is-under-requires returns-2)
+rises-spec = tie.close (tie.spec (λ c κs. search needs) returns (λ c κs. search needs) returns-2)

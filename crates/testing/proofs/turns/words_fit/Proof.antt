@@ -8,23 +8,11 @@ use borrow.Author.Needs.{needs}
 use Rattle.testing.proofs.turns.words_fit.Statement.{statement}
 use Rattle.testing.proofs.turns.words_fit.Tie as tie
 
-comes-requires : tie.Need-comes-requires
-comes-requires c κs = search needs
-
 returns : tie.Need-returns
 returns c = words-late _ _ _ _ (sym (not-true _ (c .if1 .taken)) ∙ c .before .comes .ensures)
 
-parent-at-requires : tie.Need-parent-at-requires
-parent-at-requires c κs = search needs
-
-root-fits-requires : tie.Need-root-fits-requires
-root-fits-requires c κs = search needs
-
 returns-2 : tie.Need-returns-2
 returns-2 c = words-root _ _ _ _ (sym (not-false _ (c .before .before .before .if1 .left)) ∙ c .before .before .before .before .comes .ensures) _ (c .before .before .parent-at .ensures .says) _ (omega arith) (c .root-fits .ensures)
-
-child-fits-requires : tie.Need-child-fits-requires
-child-fits-requires c κs = search needs
 
 returns-3 : tie.Need-returns-3
 returns-3 c = words-child _ _ _ _ (sym (not-false _ (c .before .before .before .if1 .left)) ∙ c .before .before .before .before .comes .ensures) _ (c .before .before .parent-at .ensures .says) _ (omega arith) (c .child-fits .ensures)
@@ -33,10 +21,10 @@ pub words-fit-spec : {M : Type 1} → statement M
 words-fit-spec =
     tie.close
     (tie.spec
-    comes-requires
+    (λ c κs. search needs)
     returns
-    parent-at-requires
-    root-fits-requires
+    (λ c κs. search needs)
+    (λ c κs. search needs)
     returns-2
-    child-fits-requires
+    (λ c κs. search needs)
     returns-3)
