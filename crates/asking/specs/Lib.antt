@@ -1,2 +1,3 @@
-pub mod Cut
+pub mod Ranges
+pub mod Tree
 pub mod Laws

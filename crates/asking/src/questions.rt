@@ -1,39 +1,15 @@
-// The questions that search the forest: piece, sole and cut.
+// The questions that the reaches decide: sole and cut.
 ghost use mathlib.Core.Path.{_≡_};
 ghost use Rattle.base.specs.Answer.{gives, refuses};
-ghost use Rattle.state.specs.Ask.{pieceCall, soleCall, cutCall};
-ghost use Rattle.state.specs.Answers.{askedTold, judgedTold};
-use crate::count::is_sole;
-use crate::count::smallest;
+ghost use Rattle.state.specs.Ask.{soleCall, cutCall};
+ghost use Rattle.state.specs.Answers.{judgedTold};
 use crate::cutting::is_cut;
+use crate::ranges::is_sole;
 use numbers::Refusal;
-use state::Asked;
 use state::Judged;
 use state::State;
-use state::is_building;
 use state::is_read;
 use testing::head;
-
-pub fn piece(s: State, frag: &[u32], held: &[u32], v: usize) -> Asked
-    ensures { λ r. ⌜ askedTold r ≡ pieceCall s (now (frag .entry)) (now (held .entry)) v ⌝ }
-{
-    let stage = s.stage;
-    let refusal = head(s, !is_building(stage), frag, held);
-    if refusal != 0 {
-        return Asked::Refused(Refusal {
-            number: refusal,
-            place: 0,
-        });
-    }
-    let n = s.n;
-    if n <= v {
-        return Asked::Refused(Refusal {
-            number: 4,
-            place: 0,
-        });
-    }
-    Asked::Number(smallest(frag, n, v))
-}
 
 fn judged(yes: bool) -> Judged
     ensures { λ r. ⌜ judgedTold r ≡ gives yes ⌝ }
@@ -74,9 +50,8 @@ pub fn sole(s: State, frag: &[u32], held: &[u32], a: usize, b: usize) -> Judged
     judged(is_sole(frag, n, a, b))
 }
 
-// The fragment table is lent to work in; it is left as found.
-pub fn cut(s: State, frag: &mut [u32], held: &[u32], v: usize) -> Judged
-    ensures { λ r. ⌜ (judgedTold r ≡ cutCall s (now (frag .entry)) (now (held .entry)) v) × (now (frag .exit) ≡ now (frag .entry)) ⌝ }
+pub fn cut(s: State, frag: &[u32], held: &[u32], v: usize) -> Judged
+    ensures { λ r. ⌜ judgedTold r ≡ cutCall s (now (frag .entry)) (now (held .entry)) v ⌝ }
 {
     let stage = s.stage;
     let refusal = head(s, is_read(stage), frag, held);

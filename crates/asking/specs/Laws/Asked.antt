@@ -1,32 +1,24 @@
 -- What the head of a question gives, and the answers of the questions.
 -- Assumes nothing.
-use Prim.Native.Nat.{ℕ, _*_, _≤_, _<_}
-use mathlib.Core.Path.{_≡_, refl, sym, ap, _∙_}
+use Prim.Native.Nat.{ℕ, _≤_, _<_}
+use mathlib.Core.Path.{_≡_, refl, sym, _∙_}
 use mathlib.Core.Bool.{Bool}
 use mathlib.Core.List.{List}
-use native.Mathlib.Omega.{arith}
-use lib.ListN.{getD, take, drop, getD-replicate, length-take, length-drop}
-use lib.Seq.{getD-take, getD-drop}
 use Rattle.base.specs.Pick.{tests}
+use Rattle.base.specs.Truth.{true-T, or-r}
 use Rattle.base.specs.Answer.{gives, refuses}
 use Rattle.rules.specs.Tables.{parentOf, rank, noteOf, placed, par, lev}
 use Rattle.rules.specs.Reading.{above, lowest, reach, childOf, soleBelow, sole, cut, rootOf, piece}
-use Rattle.state.specs.Layout.{stored, tablesIn, forestIn}
+use Rattle.state.specs.Layout.{tablesIn, forestIn}
 use Rattle.state.specs.Call.{headRefusal}
 use Rattle.state.specs.Ask.{askOne, askTwo}
-use Rattle.state.specs.Laws.Lists.{all-zeros}
+use Rattle.state.specs.Test.{isReading, isRead}
 use Rattle.state.specs.declared.State.{State}
 use Rattle.state.specs.declared.Stage.{Stage}
-use Rattle.asking.specs.Cut.{Unmarked}
-use Rattle.testing.specs.Laws.Head.{Passed}
-
--- No mark stands in a table that the head let pass.
-pub passed-unmarked : {s : State} {f h : List ℕ} → Passed s f h → Unmarked (s .n) f
-passed-unmarked {s} {f} {h} p c l =
-    let n = s .n in
-    let long = p .bounds .frag-long in
-    let z = all-zeros (take (12 * n) (drop (stored * n) f)) (12 * n) (simp (length-take, length-drop) (omega arith)) (p .found .scratch) in
-    sym (getD-drop (stored * n) f c 0) ∙ sym (getD-take (12 * n) (drop (stored * n) f) c 0 (omega arith)) ∙ ap (λ (x : List ℕ). getD x c 0) z ∙ getD-replicate (12 * n) c 0 0 (omega arith)
+use Rattle.testing.specs.Test.{headButLinks}
+use Rattle.testing.specs.Whole.{Numbered}
+use Rattle.testing.specs.Laws.Head.{head-known, head-passed}
+use Rattle.testing.specs.Laws.Whole.{passed-numbered}
 
 -- The questions are asked of the fragment table alone.
 module _ (s : State) (f h : List ℕ) where
@@ -49,6 +41,12 @@ module _ (s : State) (f h : List ℕ) where
   pub same-cut : (v : ℕ) → cut (s .n) (forestIn (s .n) f) v ≡ cut (s .n) (tablesIn s f h) v
   unfolding cut reach above lowest childOf par lev placed rank parentOf noteOf tablesIn
   same-cut v = refl
+
+-- In Read the head lets a numbered table pass.
+pub head-numbered : (s : State) (f h : List ℕ) (r : ℕ) (b : Bool) → b ≡ isRead (s .stage) → r ≡ headButLinks b s f h → r ≡ 0 → Numbered (s .n) f
+head-numbered s f h r b eb er z =
+    let p = head-passed isRead refl s f h r b eb er z in
+    passed-numbered p (or-r (isReading (s .stage)) (isRead (s .stage)) (true-T (isRead (s .stage)) (sym eb ∙ head-known b s f h (sym er ∙ z) .may)))
 
 -- The answers of a question about one fragment, r being the head's refusal.
 module _ {A : Type 0} (allowed : Stage → Bool) (s : State) (f h : List ℕ) (r : ℕ) (e : r ≡ headRefusal allowed s f h) (x : A) (v : ℕ) where

@@ -6,7 +6,7 @@ use Rattle.base.specs.Answer.{gives}
 use Rattle.state.specs.Ask.{soleCall}
 use Rattle.state.specs.Test.{isRead}
 use Rattle.testing.specs.Laws.Head.{head-is}
-use Rattle.asking.specs.Laws.Asked.{two-refused, two-first, two-second, two-same, two-answer, same-sole}
+use Rattle.asking.specs.Laws.Asked.{head-numbered, two-refused, two-first, two-second, two-same, two-answer, same-sole}
 use borrow.Author.Needs.{needs}
 use Rattle.asking.proofs.questions.sole.Statement.{statement}
 use Rattle.asking.proofs.questions.sole.Tie as tie
@@ -27,6 +27,9 @@ returns-4 : tie.Need-returns-4
 unfolding soleCall
 returns-4 c = c .not-judged4 .ensures ∙ two-same isRead _ _ _ _ (head-is isRead refl _ _ _ _ _ (c .before .before .before .before .before .before .is-read .ensures) (c .before .before .before .before .before .head .ensures)) _ _ _ (omega arith) (omega arith) (omega arith) (omega arith)
 
+is-sole-requires : tie.Need-is-sole-requires
+is-sole-requires c κs = (head-numbered _ _ _ _ _ (c .before .before .before .before .before .is-read .ensures) (c .before .before .before .before .head .ensures) (omega arith), omega arith, omega arith)
+
 returns-5 : tie.Need-returns-5
 unfolding soleCall
 returns-5 c =
@@ -35,4 +38,4 @@ returns-5 c =
     ∙ two-answer isRead _ _ _ _ (head-is isRead refl _ _ _ _ _ (c .before .before .before .before .before .before .before .is-read .ensures) (c .before .before .before .before .before .before .head .ensures)) _ _ _ (omega arith) (omega arith) (omega arith) (c .before .before .if4 .left)
 
 pub sole-spec : {M : Type 1} → statement M
-sole-spec = tie.close (tie.spec (λ c κs. search needs) (λ c κs. search needs) (λ c κs. search needs) returns (λ c κs. search needs) returns-2 (λ c κs. search needs) returns-3 (λ c κs. search needs) returns-4 (λ c κs. search needs) (λ c κs. search needs) returns-5)
+sole-spec = tie.close (tie.spec (λ c κs. search needs) (λ c κs. search needs) (λ c κs. search needs) returns (λ c κs. search needs) returns-2 (λ c κs. search needs) returns-3 (λ c κs. search needs) returns-4 is-sole-requires (λ c κs. search needs) returns-5)
