@@ -98,7 +98,7 @@ pub fn report(row: &Row, blocks: &[Vec<u8>]) -> Run {
     put_number(&mut file, row.n);
     blocks.iter().for_each(|block| file.extend_from_slice(block));
     let mut telling = Telling::begin(row.n, row.k);
-    let mut buffer = vec![0; if row.blocks == Blocks::One { file.len() } else { BLOCK }];
+    let mut buffer = vec![0; if row.blocks == Blocks::One { file.len().max(BLOCK) } else { BLOCK }];
     let mut text = vec![0; text_room(row.n)];
     // Where all fragments are placed it is the reading pass.
     loop {
