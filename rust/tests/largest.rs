@@ -98,7 +98,7 @@ fn largest_forest(parents: &[u32], chords: usize, levels: u32) {
             }
         }
     }
-    println!("largest forest: of 41 fragments {cuts} cut, {soles} with a sole link to the parent");
+    println!("largest forest: of 41 fragments {cuts} cut, {soles} sole links at them");
     assert!(guards_stand(&forest, n, k));
 }
 

@@ -109,10 +109,15 @@ pub fn report(row: &Row, blocks: &[Vec<u8>]) -> Run {
         assert_eq!(telling.tell(&mut buffer, &mut text, Heard::End), Next::Again);
     }
     let start = Clock::start();
-    let next = telling.tell(&mut buffer, &mut text, Heard::End);
+    let next = end(&mut telling, &mut buffer, &mut text);
     let time = start.passed();
     let Next::Report(size) = next else { panic!("{next:?}") };
     Run { time, passes: 0, answer: text[..size].iter().map(|&byte| byte as u32).collect(), words: (16 + row.k as usize) * row.n as usize }
+}
+
+#[inline(never)]
+fn end(telling: &mut Telling, buffer: &mut [u8], text: &mut [u8]) -> Next {
+    telling.tell(buffer, text, Heard::End)
 }
 
 /// Tells all bytes of a file, as much at once as the buffer has room for.
@@ -144,10 +149,15 @@ pub fn report_plain(row: &Row, blocks: &[Vec<u8>]) -> Run {
     let words = reading.words() + words_of(&links) + 15 * n / 4;
     let mut text = Vec::with_capacity(text_room(row.n));
     let start = Clock::start();
-    assert!(reading.close());
-    reading.spread().report(entries, built.passes, &mut text);
+    end_plain(reading, entries, built.passes, &mut text);
     let time = start.passed();
     Run { time, passes: 0, answer: text.into_iter().map(|byte| byte as u32).collect(), words }
+}
+
+#[inline(never)]
+fn end_plain(reading: Reading, links: usize, passes: usize, text: &mut Vec<u8>) {
+    assert!(reading.close());
+    reading.spread().report(links, passes, text);
 }
 
 /// One take more, of an empty block, once the list was told: what every call of that pass pays for the links held so far.
