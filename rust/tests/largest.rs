@@ -4,7 +4,7 @@ mod common;
 
 use common::{numbers, parent_links, parents, tell, Dice};
 use welmocant::plain::{self, Building, Link};
-use welmocant::{block, Ending, Forest};
+use welmocant::{block, put_number, text_room, Ending, Forest, Heard, Next, Telling};
 
 const GUARD: u32 = 0x5A5A_5A5A;
 
@@ -126,6 +126,36 @@ fn largest_forests() {
             largest_forest(&any, 10_000, levels);
         }
     });
+}
+
+/// The report on a list of many pieces with few rings, told as a file, against that of the plain rules.
+#[test]
+fn largest_report() {
+    let (n, k, mut dice) = (32_768u32, 4, Dice::new(17));
+    let mut links = parent_links(&parents(&mut dice, n, 2));
+    links.extend((0..2_000).map(|_| (dice.below(n), dice.below(n))).filter(|(a, b)| a != b));
+    dice.shuffle(&mut links);
+    let (mut file, mut text) = (Vec::new(), vec![0; text_room(n)]);
+    put_number(&mut file, n);
+    file.extend(block(&links));
+    let mut telling = Telling::begin(n, k);
+    let next = loop {
+        let mut buffer = file.clone();
+        assert_eq!(telling.tell(&mut buffer, &mut text, Heard::Bytes(file.len())), Next::More);
+        match telling.tell(&mut buffer, &mut text, Heard::End) {
+            Next::Again => {}
+            next => break next,
+        }
+    };
+    let mut beside = Building::new(n as usize, k as usize);
+    beside.take(&links);
+    while !beside.close() {
+        beside.take(&links);
+    }
+    let mut expected = Vec::new();
+    plain::read(&beside.parent, &links).unwrap().report(links.len(), beside.passes, &mut expected);
+    assert_eq!(next, Next::Report(expected.len()));
+    assert!(text[..expected.len()] == expected);
 }
 
 #[test]
