@@ -301,6 +301,47 @@ fn words_changed() {
     assert!(still.into_iter().all(|count| count > 1_000) && broken.into_iter().all(|count| count > 5_000));
 }
 
+/// The next words below a bound, the first one counting fastest; false once all came.
+fn next_words(words: &mut [u32], bound: u32) -> bool {
+    for word in words {
+        *word = (*word + 1) % bound;
+        if *word > 0 {
+            return true;
+        }
+    }
+    false
+}
+
+#[test]
+fn every_numbering_of_small_forests() {
+    // Every forest of up to three fragments, and all words up to n where its numbers stand: no others pass.
+    let (mut forests, mut tried) = (0, 0);
+    for n in 1..=3usize {
+        let mut parents = vec![0; n];
+        loop {
+            if let Ok(mut forest) = Forest::adopt(1, &parents) {
+                forest.open_reading().unwrap();
+                let right = numbers(&parents, 0..n as u32);
+                forest.frag[4 * n..7 * n].fill(0);
+                loop {
+                    let expected = if forest.frag[4 * n..7 * n] == right { Ok(parents[0]) } else { Err(Refusal { number: 11, place: 0 }) };
+                    assert_eq!(forest.parent(0), expected, "{forest:?}");
+                    tried += 1;
+                    if !next_words(&mut forest.frag[4 * n..7 * n], n as u32 + 1) {
+                        break;
+                    }
+                }
+                forests += 1;
+            }
+            if !next_words(&mut parents, n as u32) {
+                break;
+            }
+        }
+    }
+    println!("forests {forests}, numberings {tried}");
+    assert_eq!((forests, tried), (1 + 3 + 16, 8 + 3 * 729 + 16 * 262_144));
+}
+
 #[test]
 fn words_past_the_tables_stay() {
     let mut dice = Dice::new(8);
