@@ -289,8 +289,8 @@ fn adopted_forests() {
 /// The sections behind the stored ones of every stage: the numbers of the forest, or 0 where it is not numbered.
 fn holds_numbers(forest: &Forest, numbered: bool) -> bool {
     let n = forest.state[0] as usize;
-    let (numbers, scratch) = (numbers(&forest.frag[..n], 0..n as u32), &forest.frag[7 * n..16 * n]);
-    (if numbered { forest.frag[4 * n..7 * n] == numbers } else { forest.frag[4 * n..7 * n].iter().all(|&w| w == 0) }) && scratch.iter().all(|&w| w == 0)
+    let expected = if numbered { numbers(&forest.frag[..n], 0..n as u32) } else { vec![0; 3 * n] };
+    forest.frag[4 * n..7 * n] == expected && forest.frag[7 * n..16 * n].iter().all(|&w| w == 0)
 }
 
 #[test]
