@@ -105,20 +105,18 @@ pub fn table(quick: bool, by: usize) -> Vec<Row> {
     let lists = [List::Random, List::Path];
     let rooms: &[u32] = if quick { &[4, 64] } else { &[1, 4, 16, 64] };
     let ways: &[Blocks] = if quick { &[Blocks::One] } else { &[Blocks::One, Blocks::Small] };
-    for (list, k, blocks) in every(&lists, rooms, ways) {
-        add(What::Build, list, N, LINKS, k, blocks);
-    }
-    let growth: &[(What, u32)] = if quick { &[] } else { &[(What::Build, 4), (What::Build, 64), (What::Read, 4)] };
-    for &(what, k) in growth {
-        for step in 0..6 {
-            add(what, List::Random, N, (LINKS / 8) << step, k, Blocks::One);
+    for (what, rooms, growing) in [(What::Build, rooms, &[4, 64][..]), (What::Read, &[4, 64], &[4])] {
+        for (list, k, blocks) in every(&lists, rooms, ways) {
+            add(what, list, N, LINKS, k, blocks);
         }
-        for n in [N / 8, N / 4, N / 2, N] {
-            add(what, List::Random, n, LINKS, k, Blocks::One);
+        for &k in if quick { &[] } else { growing } {
+            for step in 0..6 {
+                add(what, List::Random, N, (LINKS / 8) << step, k, Blocks::One);
+            }
+            for n in [N / 8, N / 4, N / 2, N] {
+                add(what, List::Random, n, LINKS, k, Blocks::One);
+            }
         }
-    }
-    for (list, k, blocks) in every(&lists, &[4, 64], ways) {
-        add(What::Read, list, N, LINKS, k, blocks);
     }
     for (list, k, blocks) in every(&lists, &[4, 64], &[Blocks::One]) {
         add(What::Report, list, N, LINKS, k, blocks);
