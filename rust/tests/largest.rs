@@ -1,10 +1,10 @@
-//! The largest case: n = 32,768, k = 64, tables of exactly the least length with guard words behind them.
+//! The largest case: n = 32,768, tables of exactly the least length with guard words behind them.
 
 mod common;
 
-use common::{tell, Dice};
-use welmocant::plain::{Building, Link};
-use welmocant::{block, Ending, Forest};
+use common::{numbers, parent_links, parents, tell, Dice};
+use welmocant::plain::{self, Building, Link};
+use welmocant::{block, put_number, text_room, Ending, Forest, Heard, Next, Telling};
 
 const GUARD: u32 = 0x5A5A_5A5A;
 
@@ -59,6 +59,103 @@ fn most_held(n: u32, k: u32) {
     assert_eq!(forest.frag[..n as usize], beside.parent);
     assert!(forest.frag[n as usize..2 * n as usize].iter().zip(&beside.level).all(|(&word, &level)| word == level + 1));
     assert!(guards_stand(&forest, n, k));
+}
+
+/// Reads a forest of all fragments that is adopted: its parent links, and chords to fragments that stand up to so many levels higher. Its
+/// numbers against a walk, and what is asked of a few fragments against the plain rules.
+fn largest_forest(parents: &[u32], chords: usize, levels: u32) {
+    let (n, k, mut dice) = (parents.len() as u32, 1, Dice::new(15));
+    let mut links = parent_links(parents);
+    for _ in 0..chords {
+        let v = dice.below(n);
+        let up = (0..dice.below(levels)).fold(v, |at, _| parents[at as usize]);
+        if up != v {
+            links.push((up, v));
+        }
+    }
+    dice.shuffle(&mut links);
+    let mut forest = Forest::adopt(k, parents).unwrap();
+    forest.frag.extend([GUARD; 4]);
+    forest.held.extend([GUARD; 4]);
+    let read = plain::read(parents, &links).unwrap();
+    for v in [0, n - 1] {
+        assert_eq!(forest.piece(v), Ok(read.piece[v as usize]));
+    }
+    forest.open_reading().unwrap();
+    tell(&mut forest, &links, links.len() / 2 + 1);
+    assert_eq!(forest.close(), Ok(Ending::Read));
+    assert!(forest.frag[4 * n as usize..7 * n as usize] == numbers(parents, 0..n));
+    let (mut soles, mut cuts) = (0, 0);
+    let root = (0..n).find(|&v| parents[v as usize] == v).unwrap();
+    for v in std::iter::once(root).chain((0..40).map(|_| dice.below(n))) {
+        assert_eq!(forest.piece(v), Ok(read.piece[v as usize]));
+        assert_eq!(forest.cut(v), Ok(read.cut(v)));
+        cuts += read.cut(v) as usize;
+        for w in [parents[v as usize], (v + n / 2) % n] {
+            if w != v {
+                assert_eq!(forest.sole(v, w), Ok(read.sole(v, w)));
+                soles += read.sole(v, w) as usize;
+            }
+        }
+    }
+    println!("largest forest: of 41 fragments {cuts} cut, {soles} sole links at them");
+    assert!(guards_stand(&forest, n, k));
+}
+
+/// In a thread that has room for the walk, which calls itself once for each level.
+fn with_room(work: impl FnOnce() + Send + 'static) {
+    std::thread::Builder::new().stack_size(1 << 26).spawn(work).unwrap().join().unwrap();
+}
+
+/// Path, star and any tree, and a forest of many trees.
+#[test]
+fn largest_forests() {
+    with_room(|| {
+        let (n, mut dice) = (32_768u32, Dice::new(16));
+        let mut number: Vec<u32> = (0..n).collect();
+        dice.shuffle(&mut number);
+        let (mut path, mut star) = (number.clone(), number.clone());
+        for v in 0..n as usize {
+            path[number[v] as usize] = number[v.saturating_sub(1)];
+            star[number[v] as usize] = number[0];
+        }
+        largest_forest(&path, 1_000, 100);
+        largest_forest(&star, 1_000, 2);
+        for (kind, levels) in [(0, 100), (2, 10), (3, 20)] {
+            let any = parents(&mut dice, n, kind);
+            largest_forest(&any, 10_000, levels);
+        }
+    });
+}
+
+/// The report on a list of many pieces with few rings, told as a file, against that of the plain rules.
+#[test]
+fn largest_report() {
+    let (n, k, mut dice) = (32_768u32, 4, Dice::new(17));
+    let mut links = parent_links(&parents(&mut dice, n, 2));
+    links.extend((0..2_000).map(|_| (dice.below(n), dice.below(n))).filter(|(a, b)| a != b));
+    dice.shuffle(&mut links);
+    let (mut file, mut text) = (Vec::new(), vec![0; text_room(n)]);
+    put_number(&mut file, n);
+    file.extend(block(&links));
+    let mut telling = Telling::begin(n, k);
+    let next = loop {
+        let mut buffer = file.clone();
+        assert_eq!(telling.tell(&mut buffer, &mut text, Heard::Bytes(file.len())), Next::More);
+        match telling.tell(&mut buffer, &mut text, Heard::End) {
+            Next::Again => {}
+            next => break next,
+        }
+    };
+    let mut beside = Building::new(n as usize, k as usize);
+    beside.take(&links);
+    while !beside.close() {
+        beside.take(&links);
+    }
+    let mut expected = Vec::new();
+    plain::read(&beside.parent, &links).unwrap().report(links.len(), beside.passes, &mut expected);
+    assert_eq!(next, Next::Report(expected.len()));
+    assert!(text[..expected.len()] == expected);
 }
 
 #[test]

@@ -2,7 +2,7 @@
 
 mod common;
 
-use common::{build, list, tell, Dice};
+use common::{build, list, numbers, parent_links, parents, tell, Dice};
 use welmocant::plain::decode;
 use welmocant::{block, Ending, Forest, Refusal};
 
@@ -155,10 +155,11 @@ fn sound(f: &Forest) -> bool {
         _ => note(v) <= level(v) - 1,
     });
     let marks = (0..n).all(|v| mark(v) <= 1 && (mark(v) == 0 || if building { !placed(v) } else { parent(v) != v }));
-    let zero = f.held[held..k * n].iter().all(|&w| w == 0) && f.frag[4 * n..16 * n].iter().all(|&w| w == 0);
+    let numbered = if stage >= 2 { numbers(&f.frag[..n], 0..n as u32) } else { vec![0; 3 * n] };
+    let zero = f.held[held..k * n].iter().chain(&f.frag[7 * n..16 * n]).all(|&w| w == 0);
     let counts = entries <= 16_777_215 && passes <= 1 + (0..n).filter(|&v| placed(v)).count();
     let read = stage != 3 || crossed == 0 && (0..n).all(|v| parent(v) == v || mark(v) > 0);
-    notes && marks && zero && counts && read && (stage == 2 || crossed == 0)
+    notes && marks && f.frag[4 * n..7 * n] == numbered && zero && counts && read && (stage == 2 || crossed == 0)
 }
 
 /// Every call on a state within its bounds: 6 where the stage does not allow it, then 11 where the words are no state, else it is accepted or
@@ -190,62 +191,155 @@ fn every_call(forest: &Forest, sound_before: bool) {
     }
 }
 
-#[test]
-fn single_words_changed() {
-    let mut dice = Dice::new(7);
-    let (mut still, mut broken) = (0, 0);
-    for round in 0..2_000u32 {
-        let n = 1 + dice.below(9);
-        let k = 1 + dice.below(3);
-        let links = list(&mut dice, n, round % 4);
-        let forest = if round % 2 == 0 {
-            let mut f = Forest::start(n, k).unwrap();
-            if round % 4 == 0 {
-                tell(&mut f, &links, 3);
-                if f.close() == Ok(Ending::Done) {
-                    f = Forest::start(n, k).unwrap();
-                }
-            }
+/// A state in each stage in turn: half of them in Building, where the list is told for the first time or again, half of the others built from
+/// the list and half adopted.
+fn any_state(dice: &mut Dice, round: u32) -> Forest {
+    let (n, k) = (1 + dice.below(9), 1 + dice.below(3));
+    let mut links = list(dice, n, round / 2 % 4);
+    let mut f = Forest::start(n, k).unwrap();
+    if round % 2 == 0 {
+        if dice.below(2) == 0 {
             tell(&mut f, &links, 3);
-            f
-        } else {
-            let mut f = build(n, k, &links, 4);
-            if round % 8 > 1 {
-                f.open_reading().unwrap();
-                tell(&mut f, &links, 3);
+            if f.close() == Ok(Ending::Done) {
+                f = Forest::start(n, k).unwrap();
             }
-            if round % 8 > 3 {
-                f.close().unwrap();
+        }
+        tell(&mut f, &links, 3);
+        return f;
+    }
+    if dice.below(2) == 0 {
+        let parents = parents(dice, n, round / 2 % 4);
+        f = Forest::adopt(k, &parents).unwrap();
+        links = parent_links(&parents);
+    } else {
+        f = build(n, k, &links, 4);
+    }
+    if round % 8 > 1 {
+        f.open_reading().unwrap();
+        tell(&mut f, &links, 3);
+    }
+    if round % 8 > 3 {
+        f.close().unwrap();
+    }
+    f
+}
+
+/// Changes some of the numbers of the forest, one word or several that go together.
+fn change_numbers(dice: &mut Dice, f: &mut Forest, value: u32) {
+    let n = f.state[0] as usize;
+    let (a, b) = (dice.below(n as u32) as usize, dice.below(n as u32) as usize);
+    let kind = dice.below(10);
+    let (forest, numbered) = f.frag.split_at_mut(4 * n);
+    let (turn, behind) = numbered.split_at_mut(n);
+    let (end, whose) = behind.split_at_mut(n);
+    match kind {
+        0 => turn[a] = value,
+        1 => end[a] = value,
+        2 => whose[a] = value,
+        3 => end[a] = end[a].wrapping_sub(1),
+        // Two exchanged: their turns, with whose they are or without, the ends too, or only whose.
+        4 => turn.swap(a, b),
+        5 | 6 => {
+            whose.swap(turn[a] as usize, turn[b] as usize);
+            turn.swap(a, b);
+            if kind == 6 {
+                end.swap(a, b);
             }
-            f
-        };
+        }
+        7 => whose.swap(a, b),
+        // Another depth-first order: children by falling number, or in any order.
+        8 => numbered[..3 * n].copy_from_slice(&numbers(&forest[..n], (0..n as u32).rev())),
+        _ => {
+            let mut order: Vec<u32> = (0..n as u32).collect();
+            dice.shuffle(&mut order);
+            numbered[..3 * n].copy_from_slice(&numbers(&forest[..n], order.into_iter()));
+        }
+    }
+}
+
+/// Hangs a fragment that has no child under another, or makes it a root. Its level follows, and every second time the numbers do.
+fn hang_elsewhere(dice: &mut Dice, f: &mut Forest) {
+    let n = f.state[0] as usize;
+    let (v, p) = (dice.below(n as u32) as usize, dice.below(n as u32) as usize);
+    if (0..n).any(|c| c != v && f.frag[c] as usize == v) {
+        return;
+    }
+    f.frag[v] = p as u32;
+    f.frag[n + v] = if p == v { 1 } else { f.frag[n + p] + 1 };
+    if dice.below(2) == 0 {
+        let numbered = numbers(&f.frag[..n], 0..n as u32);
+        f.frag[4 * n..7 * n].copy_from_slice(&numbered);
+    }
+}
+
+#[test]
+fn words_changed() {
+    let mut dice = Dice::new(7);
+    let (mut still, mut broken) = ([0; 4], [0; 4]);
+    for round in 0..4_000u32 {
+        let forest = any_state(&mut dice, round);
+        let [n, k, stage, ..] = forest.state;
         assert!(sound(&forest));
         for _ in 0..30 {
             let mut changed = forest.clone();
             let value = [0, 1, 2, 3, dice.below(n + 2), 32_768 * dice.below(n) + dice.below(n), 40_000, u32::MAX][dice.below(8) as usize];
-            match dice.below(4) {
-                0 => {
-                    let i = dice.below(4 * n) as usize;
-                    changed.frag[i] = value;
-                }
-                1 => {
-                    let i = dice.below(16 * n) as usize;
-                    changed.frag[i] = value;
-                }
-                2 => {
-                    let i = dice.below(k * n) as usize;
-                    changed.held[i] = value;
-                }
-                _ => changed.state[3 + dice.below(4) as usize] = value,
+            match dice.below(8) {
+                0 | 1 => changed.frag[dice.below(4 * n) as usize] = value,
+                2 => changed.frag[dice.below(16 * n) as usize] = value,
+                3 => changed.held[dice.below(k * n) as usize] = value,
+                4 => changed.state[3 + dice.below(4) as usize] = value,
+                5 | 6 => change_numbers(&mut dice, &mut changed, value),
+                _ => hang_elsewhere(&mut dice, &mut changed),
             }
             let expected = sound(&changed);
             every_call(&changed, expected);
-            still += expected as usize;
-            broken += !expected as usize;
+            still[stage as usize] += expected as usize;
+            broken[stage as usize] += !expected as usize;
         }
     }
-    println!("words changed: still a state {still}, refused with 11 {broken}");
-    assert!(still > 5_000 && broken > 20_000);
+    println!("words changed, by stage: still a state {still:?}, refused with 11 {broken:?}");
+    assert!(still.into_iter().all(|count| count > 1_000) && broken.into_iter().all(|count| count > 5_000));
+}
+
+/// The next words below a bound, the first one counting fastest; false once all came.
+fn next_words(words: &mut [u32], bound: u32) -> bool {
+    for word in words {
+        *word = (*word + 1) % bound;
+        if *word > 0 {
+            return true;
+        }
+    }
+    false
+}
+
+#[test]
+fn every_numbering_of_small_forests() {
+    // Every forest of up to three fragments, and all words up to n where its numbers stand: no others pass.
+    let (mut forests, mut tried) = (0, 0);
+    for n in 1..=3usize {
+        let mut parents = vec![0; n];
+        loop {
+            if let Ok(mut forest) = Forest::adopt(1, &parents) {
+                forest.open_reading().unwrap();
+                let right = numbers(&parents, 0..n as u32);
+                forest.frag[4 * n..7 * n].fill(0);
+                loop {
+                    let expected = if forest.frag[4 * n..7 * n] == right { Ok(parents[0]) } else { Err(Refusal { number: 11, place: 0 }) };
+                    assert_eq!(forest.parent(0), expected, "{forest:?}");
+                    tried += 1;
+                    if !next_words(&mut forest.frag[4 * n..7 * n], n as u32 + 1) {
+                        break;
+                    }
+                }
+                forests += 1;
+            }
+            if !next_words(&mut parents, n as u32) {
+                break;
+            }
+        }
+    }
+    println!("forests {forests}, numberings {tried}");
+    assert_eq!((forests, tried), (1 + 3 + 16, 8 + 3 * 729 + 16 * 262_144));
 }
 
 #[test]

@@ -157,7 +157,7 @@ fn failing_disks() {
         assert_eq!((text.as_str(), error.as_str()), ("", "report: links.sev: Input/output error\n"));
     }
     for most in ["1", "2", "3", "7"] {
-        assert_eq!(on(&format!("cut{most}"), &[("WELMOCANT_CUT", most)]), (whole.clone(), String::new()));
+        assert_eq!(on(&format!("most{most}"), &[("WELMOCANT_CUT", most)]), (whole.clone(), String::new()));
     }
     assert_eq!(on("short", &[("WELMOCANT_WRITE_CUT", "5")]), (whole.clone(), String::new()));
     let (text, error) = on("full", &[("WELMOCANT_FULL", "0")]);

@@ -4,7 +4,7 @@ mod common;
 #[path = "common/model.rs"]
 mod model;
 
-use common::{build, links_by_home, list, tell, Dice};
+use common::{build, links_by_home, list, numbers, parent_links, parents, tell, Dice};
 use model::Model;
 use welmocant::plain::{self, removal, Building, Link};
 use welmocant::{block, Ending, Forest, Stage};
@@ -257,7 +257,7 @@ fn adopted_forests() {
                     assert_eq!(forest.parent(v), Ok(parents[v as usize]));
                     assert_eq!(forest.level(v), Ok(level[v as usize]));
                 }
-                let mut links: Vec<Link> = (0..n).filter(|&v| parents[v as usize] != v).map(|v| (v, parents[v as usize])).collect();
+                let mut links = parent_links(&parents);
                 if n > 1 && dice.below(2) == 0 {
                     links.extend(list(&mut dice, n, 0).into_iter().take(2));
                 }
@@ -284,6 +284,44 @@ fn adopted_forests() {
     }
     println!("adopted forests: cycles {cycles}, read {taken}, refused by reading {refused}");
     assert!(cycles > 1_000 && taken > 1_000 && refused > 1_000);
+}
+
+/// The sections behind the stored ones of every stage: the numbers of the forest, or 0 where it is not numbered.
+fn holds_numbers(forest: &Forest, numbered: bool) -> bool {
+    let n = forest.state[0] as usize;
+    let expected = if numbered { numbers(&forest.frag[..n], 0..n as u32) } else { vec![0; 3 * n] };
+    forest.frag[4 * n..7 * n] == expected && forest.frag[7 * n..16 * n].iter().all(|&w| w == 0)
+}
+
+#[test]
+fn numbers_of_adopted_forests() {
+    // From opening to opening: a pass that lacks a link clears the numbers, one that is accepted keeps them.
+    let mut dice = Dice::new(14);
+    let mut refused = 0;
+    for round in 0..4_000u32 {
+        let n = 1 + dice.below([6, 40, 300][round as usize / 4 % 3]);
+        let parents = parents(&mut dice, n, round % 4);
+        let mut links = parent_links(&parents);
+        dice.shuffle(&mut links);
+        let mut forest = Forest::adopt(1, &parents).unwrap();
+        let mut model = Model::adopt(1, &parents, &plain::levels(&parents).unwrap());
+        assert!(forest == model.words() && holds_numbers(&forest, false));
+        if let Some((_, part)) = links.split_last() {
+            assert!(!read_both(&mut forest, &mut model, part, 50));
+            assert!(forest.stage() == Some(Stage::Built) && holds_numbers(&forest, false), "{parents:?}");
+            refused += 1;
+        }
+        for _ in 0..2 {
+            assert!(read_both(&mut forest, &mut model, &links, 50));
+            assert!(forest.stage() == Some(Stage::Read) && holds_numbers(&forest, true), "{parents:?}");
+        }
+        forest.open_reading().unwrap();
+        assert!(forest.stage() == Some(Stage::Reading) && holds_numbers(&forest, true), "{parents:?}");
+        assert_eq!(forest.close().is_ok(), links.is_empty());
+        assert!(holds_numbers(&forest, links.is_empty()), "{parents:?}");
+    }
+    println!("forests numbered 4000, refused by reading and numbered again {refused}");
+    assert!(refused > 3_000);
 }
 
 #[test]

@@ -6,7 +6,7 @@ use welmocant::plain::Link;
 use welmocant::{block, put_number};
 
 /// Bytes of a block at most, where a list is told in several.
-const BLOCK: usize = 65_536;
+pub const BLOCK: usize = 65_536;
 
 /// The longest chord of a path list.
 const CHORD: u32 = 100;

@@ -117,7 +117,7 @@ fn print(row: &Row, ours: &Side, plain: &Side) {
 /// The forest that is read or adopted: the one that plain Rust builds; in a rising one each fragment hangs under the next.
 fn parents(row: &Row, blocks: &[Vec<u8>]) -> Vec<u32> {
     match (row.what, row.list) {
-        (What::Build | What::Take, _) => Vec::new(),
+        (What::Build | What::Report | What::Take, _) => Vec::new(),
         (What::Adopt, List::Rising) => (1..row.n).chain([row.n - 1]).collect(),
         _ => sides::build_plain(row, blocks).answer[..row.n as usize].to_vec(),
     }
@@ -138,6 +138,7 @@ fn measure(row: &Row, options: &Options) {
             ours.0.push(match row.what {
                 What::Build => sides::build(row, &blocks),
                 What::Read => sides::read(row, &parents, &blocks),
+                What::Report => sides::report(row, &blocks),
                 What::Take => sides::take(row, &blocks),
                 What::Adopt => sides::adopt(row, &parents),
             });
@@ -146,6 +147,7 @@ fn measure(row: &Row, options: &Options) {
             plain.0.push(match row.what {
                 What::Build => sides::build_plain(row, &blocks),
                 What::Read => sides::read_plain(row, &parents, &blocks),
+                What::Report => sides::report_plain(row, &blocks),
                 What::Take => sides::take_plain(row, &blocks),
                 What::Adopt => sides::adopt_plain(&parents),
             });

@@ -6,6 +6,7 @@ use std::fmt;
 pub enum What {
     Build,
     Read,
+    Report,
     Take,
     Adopt,
 }
@@ -39,6 +40,7 @@ impl fmt::Display for What {
         f.write_str(match self {
             What::Build => "build",
             What::Read => "read",
+            What::Report => "report",
             What::Take => "take",
             What::Adopt => "adopt",
         })
@@ -72,7 +74,7 @@ impl Row {
     pub fn named(words: &[String]) -> Option<Row> {
         let [what, list, n, links, k, blocks] = words else { return None };
         let row = Row {
-            what: *[What::Build, What::Read, What::Take, What::Adopt].iter().find(|w| w.to_string() == *what)?,
+            what: *[What::Build, What::Read, What::Report, What::Take, What::Adopt].iter().find(|w| w.to_string() == *what)?,
             list: *[List::Random, List::Path, List::Hurt, List::Rising].iter().find(|l| l.to_string() == *list)?,
             n: n.parse().ok()?,
             links: links.parse().ok()?,
@@ -103,19 +105,21 @@ pub fn table(quick: bool, by: usize) -> Vec<Row> {
     let lists = [List::Random, List::Path];
     let rooms: &[u32] = if quick { &[4, 64] } else { &[1, 4, 16, 64] };
     let ways: &[Blocks] = if quick { &[Blocks::One] } else { &[Blocks::One, Blocks::Small] };
-    for (list, k, blocks) in every(&lists, rooms, ways) {
-        add(What::Build, list, N, LINKS, k, blocks);
-    }
-    for &k in if quick { &[][..] } else { &[4, 64] } {
-        for step in 0..6 {
-            add(What::Build, List::Random, N, (LINKS / 8) << step, k, Blocks::One);
+    for (what, rooms, growing) in [(What::Build, rooms, &[4, 64][..]), (What::Read, &[4, 64], &[4])] {
+        for (list, k, blocks) in every(&lists, rooms, ways) {
+            add(what, list, N, LINKS, k, blocks);
         }
-        for n in [N / 8, N / 4, N / 2, N] {
-            add(What::Build, List::Random, n, LINKS, k, Blocks::One);
+        for &k in if quick { &[] } else { growing } {
+            for step in 0..6 {
+                add(what, List::Random, N, (LINKS / 8) << step, k, Blocks::One);
+            }
+            for n in [N / 8, N / 4, N / 2, N] {
+                add(what, List::Random, n, LINKS, k, Blocks::One);
+            }
         }
     }
     for (list, k, blocks) in every(&lists, &[4, 64], &[Blocks::One]) {
-        add(What::Read, list, N, LINKS, k, blocks);
+        add(What::Report, list, N, LINKS, k, blocks);
     }
     if quick {
         return rows;

@@ -1,16 +1,18 @@
 //! The two sides: the proved library, and plain Rust of the same rules. They stay functions of their own, so that a profile can tell them apart.
 
 use super::clock::Clock;
-use super::rows::Row;
+use super::lists::BLOCK;
+use super::rows::{Blocks, Row};
 use welmocant::plain::{decode, levels, words_of, Building, Link, Reading};
-use welmocant::{Ending, Forest};
+use welmocant::{put_number, text_room, Ending, Forest, Heard, Next, Telling};
 
 /// One run: its time, what must be the same on both sides, and the words it took.
 pub struct Run {
     /// In milliseconds.
     pub time: f64,
     pub passes: usize,
-    /// Of a building the parents and the levels, of a reading the notes and the parent links seen: as the fragment table has them.
+    /// Of a building the parents and the levels, of a reading the notes and the parent links seen: as the fragment table has them. Of a report
+    /// the bytes of its text.
     pub answer: Vec<u32>,
     pub words: usize,
 }
@@ -87,6 +89,75 @@ pub fn read_plain(row: &Row, parents: &[u32], blocks: &[Vec<u8>]) -> Run {
     let mut answer: Vec<u32> = levels.iter().zip(&reading.low).map(|(level, low)| level - low).collect();
     answer.extend(reading.seen.iter().map(|&s| s as u32));
     Run { time, passes: 1, answer, words: reading.words() + words_of(&links) }
+}
+
+/// The end of the list heard in its last pass, which was told as a file: the close and the text of the report.
+#[inline(never)]
+pub fn report(row: &Row, blocks: &[Vec<u8>]) -> Run {
+    let mut file = Vec::new();
+    put_number(&mut file, row.n);
+    blocks.iter().for_each(|block| file.extend_from_slice(block));
+    let mut telling = Telling::begin(row.n, row.k);
+    let mut buffer = vec![0; if row.blocks == Blocks::One { file.len().max(BLOCK) } else { BLOCK }];
+    let mut text = vec![0; text_room(row.n)];
+    // Where all fragments are placed it is the reading pass.
+    loop {
+        tell_file(&mut telling, &file, &mut buffer, &mut text);
+        if telling.placed() == row.n as usize {
+            break;
+        }
+        assert_eq!(telling.tell(&mut buffer, &mut text, Heard::End), Next::Again);
+    }
+    let start = Clock::start();
+    let next = end(&mut telling, &mut buffer, &mut text);
+    let time = start.passed();
+    let Next::Report(size) = next else { panic!("{next:?}") };
+    Run { time, passes: 0, answer: text[..size].iter().map(|&byte| byte as u32).collect(), words: (16 + row.k as usize) * row.n as usize }
+}
+
+#[inline(never)]
+fn end(telling: &mut Telling, buffer: &mut [u8], text: &mut [u8]) -> Next {
+    telling.tell(buffer, text, Heard::End)
+}
+
+/// Tells all bytes of a file, as much at once as the buffer has room for.
+fn tell_file(telling: &mut Telling, file: &[u8], buffer: &mut [u8], text: &mut [u8]) {
+    let mut rest = file;
+    while !rest.is_empty() {
+        let have = telling.have();
+        let (part, more) = rest.split_at(rest.len().min(buffer.len() - have));
+        buffer[have..have + part.len()].copy_from_slice(part);
+        assert_eq!(telling.tell(buffer, text, Heard::Bytes(part.len())), Next::More);
+        rest = more;
+    }
+}
+
+#[inline(never)]
+pub fn report_plain(row: &Row, blocks: &[Vec<u8>]) -> Run {
+    let n = row.n as usize;
+    let built = build_plain(row, blocks);
+    let parents = &built.answer[..n];
+    let mut links: Vec<Link> = Vec::new();
+    let mut reading = Reading::open(parents, &levels(parents).unwrap());
+    let mut entries = 0;
+    for block in blocks {
+        decode(row.n, entries, block, &mut links).unwrap();
+        entries += links.len();
+        reading.take(&links);
+    }
+    // What is spread takes three words and three bytes of each fragment besides.
+    let words = reading.words() + words_of(&links) + 15 * n / 4;
+    let mut text = Vec::with_capacity(text_room(row.n));
+    let start = Clock::start();
+    end_plain(reading, entries, built.passes, &mut text);
+    let time = start.passed();
+    Run { time, passes: 0, answer: text.into_iter().map(|byte| byte as u32).collect(), words }
+}
+
+#[inline(never)]
+fn end_plain(reading: Reading, links: usize, passes: usize, text: &mut Vec<u8>) {
+    assert!(reading.close());
+    reading.spread().report(links, passes, text);
 }
 
 /// One take more, of an empty block, once the list was told: what every call of that pass pays for the links held so far.

@@ -73,6 +73,58 @@ pub fn links_by_home(n: u32) -> Vec<Link> {
     links
 }
 
+/// The parents of a forest of n fragments in shuffled numbers: deep, wide, with many roots, or any tree.
+pub fn parents(dice: &mut Dice, n: u32, kind: u32) -> Vec<u32> {
+    let mut number: Vec<u32> = (0..n).collect();
+    dice.shuffle(&mut number);
+    let mut parents = vec![0; n as usize];
+    for v in 0..n {
+        let above = match kind {
+            _ if v == 0 => v,
+            0 => v - 1 - dice.below(v.min(2)),
+            1 => dice.below(v.min(3)),
+            2 if dice.below(2) == 0 => v,
+            _ => dice.below(v),
+        };
+        parents[number[v as usize] as usize] = number[above as usize];
+    }
+    parents
+}
+
+/// The links to the parents.
+pub fn parent_links(parents: &[u32]) -> Vec<Link> {
+    parents.iter().enumerate().map(|(v, &p)| (v as u32, p)).filter(|(v, p)| v != p).collect()
+}
+
+/// The numbers of a forest by a walk, as three sections: the turn of each fragment, where those below it end, and whose turn each is. Roots and
+/// children come in the order given, which is by rising number in the library's tables.
+pub fn numbers(parents: &[u32], order: impl Iterator<Item = u32>) -> Vec<u32> {
+    let n = parents.len();
+    let (mut roots, mut children) = (Vec::new(), vec![Vec::new(); n]);
+    for v in order {
+        match parents[v as usize] {
+            p if p == v => roots.push(v),
+            p => children[p as usize].push(v),
+        }
+    }
+    let (mut sections, mut next) = (vec![0; 3 * n], 0);
+    for &root in &roots {
+        walk(root, &children, &mut sections, &mut next);
+    }
+    sections
+}
+
+fn walk(v: u32, children: &[Vec<u32>], sections: &mut [u32], next: &mut u32) {
+    let n = children.len();
+    sections[v as usize] = *next;
+    sections[2 * n + *next as usize] = v;
+    *next += 1;
+    for &c in &children[v as usize] {
+        walk(c, children, sections, next);
+    }
+    sections[n + v as usize] = *next;
+}
+
 /// Tells a list in blocks of so many links.
 pub fn tell(forest: &mut Forest, links: &[Link], size: usize) {
     for part in links.chunks(size.max(1)) {

@@ -1,6 +1,7 @@
 //! The rules of document 01 once more, one after another and in no hurry, with every word that is stored: what the trials hold the library's
 //! words to. Where `plain` goes quick ways, this goes those of the document.
 
+use crate::common::numbers;
 use std::collections::HashSet;
 use welmocant::plain::Link;
 use welmocant::{Ending, Forest, Stage, STATE, WORDS};
@@ -224,6 +225,9 @@ impl Model {
         };
         let state: [u32; STATE] = [self.n, self.k, stage, self.passes, self.entries, self.held.len() as u32, self.crossed as u32];
         let mut frag = [&self.parent[..], &self.level, &self.note, &self.mark].concat();
+        if stage >= 2 {
+            frag.extend(numbers(&self.parent, 0..self.n));
+        }
         frag.resize(WORDS * self.n as usize, 0);
         let mut held: Vec<u32> = self.held.iter().map(|&(a, b)| a * 32_768 + b).collect();
         held.resize((self.k * self.n) as usize, 0);
