@@ -15,7 +15,7 @@ use Rattle.lists.specs.Laws.Link.{never-both}
 use Rattle.state.specs.Call.{Begun, Left}
 use Rattle.state.specs.Close.{Ending, more, whole, read, closeCall}
 use Rattle.state.specs.Take.{takes}
-use Rattle.state.specs.Ask.{cutCall, soleCall}
+use Rattle.state.specs.Ask.{pieceCall, cutCall, soleCall}
 use Rattle.state.specs.Answers.{begunTold, takenTold, closedTold, askedTold, judgedTold}
 use Rattle.state.specs.Unique.{closed-decided}
 use Rattle.state.specs.Laws.KeepsCalls.{close-keeps}

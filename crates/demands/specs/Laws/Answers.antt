@@ -22,6 +22,7 @@ use Rattle.state.specs.declared.State.{State}
 use Rattle.state.specs.declared.Asked.the-variants.{Number}
 use Rattle.state.specs.declared.Stage.{Stage}
 use Rattle.state.specs.declared.Stage.the-variants.{Building, Built, Reading, Read}
+use Rattle.demands.specs.Promises.{Asks, PieceAnswer}
 use Rattle.demands.specs.Run.{Origin, start, Moment, ParentAt, LevelAt, PieceAt, fragments, tablesAt}
 use Rattle.demands.specs.Step.{parentAt, pieceAt, cutAt, soleAt}
 use Rattle.demands.specs.Claims.{InBuilding, InRead, Gives, StepsToRoot, Never, Truly, Alike}
@@ -38,7 +39,7 @@ read-settled Reading r b = b
 read-settled Read r b = b
 
 -- What piece answers is a number asked for.
-number-of : {s : State} {f h : List ℕ} {v : ℕ} → PieceAnswer s f h v → Asks (pieceCall s f h v)
+abbrev number-of : {s : State} {f h : List ℕ} {v : ℕ} → PieceAnswer s f h v → Asks (pieceCall s f h v)
 number-of a = record { answer = a .answer; promise = a .promise .0 }
 
 other-met : {A : Type 0} (x : Answer A) (number place : ℕ) → Only Other x → x ≡ refuses number place → number ≢ 11
@@ -64,7 +65,7 @@ module _ {o : Origin} {m : Moment} (H : Holds o m) where
     parent-never = λ v a r e. other-met _ _ _ (one-only s f h (H .tested) asks (parentOf (tablesAt m) v) v) (asked-refused a r e);
     level-never = λ v a r e. other-met _ _ _ (one-only s f h (H .tested) asks (lev (tablesAt m) v) v) (asked-refused a r e);
     piece-never = λ v a r e. other-met _ _ _ (one-only s f h (H .tested) asks (piece (s .n) (tablesAt m) v) v) (asked-refused (number-of a) r e);
-    cut-never = λ v a r e. other-met _ _ _ (one-only s f h (H .tested) isRead (cut (s .n) (tablesAt m) v) v) (judged-refused (a .answer) (a .promise .0) r e);
+    cut-never = λ v a r e. other-met _ _ _ (one-only s f h (H .tested) isRead (cut (s .n) (tablesAt m) v) v) (judged-refused (a .answer) (a .promise) r e);
     sole-never = λ u v a r e. other-met _ _ _ (two-only s f h (H .tested) isRead (sole (s .n) (tablesAt m) u v) u v) (judged-refused (a .answer) (a .promise) r e);
   }
 
@@ -106,7 +107,7 @@ module _ {o : Origin} {m : Moment} (H : Holds o m) where
     truly-at = record {
       piece-true = λ v l a. asked-gives (Piece (m .telling) v) (number-of a) _ (piece-asked settled-at v l) (piece-removes H settled-at accepted-at v l);
       sole-true = λ u v l i d a. judged-decides (a .answer) _ (a .promise ∙ sole-asked u v l i d) (sole-removes H settled-at accepted-at u v l i);
-      cut-true = λ v l a. judged-decides (a .answer) _ (a .promise .0 ∙ cut-asked v l) (cut-removes H settled-at accepted-at v l);
+      cut-true = λ v l a. judged-decides (a .answer) _ (a .promise ∙ cut-asked v l) (cut-removes H settled-at accepted-at v l);
     }
 
     -- Fragments that are none, and one fragment twice.
@@ -159,5 +160,5 @@ module _ {o q : Origin} {m w : Moment} (H : Holds o m) (K : Holds q w) (even : f
   alike-at = record {
     pieces-alike = λ v a b. asked-decided _ (a .answer) (b .answer) (a .promise .0 ∙ pieces-told v) (b .promise .0);
     soles-alike = λ u v a b. judged-decided _ (a .answer) (b .answer) (a .promise ∙ soles-told u v) (b .promise);
-    cuts-alike = λ v a b. judged-decided _ (a .answer) (b .answer) (a .promise .0 ∙ cuts-told v) (b .promise .0);
+    cuts-alike = λ v a b. judged-decided _ (a .answer) (b .answer) (a .promise ∙ cuts-told v) (b .promise);
   }
