@@ -2,7 +2,7 @@
 -- Assumes nothing.
 use Prim.Native.Nat.{ℕ, suc, _+_, _-_, _*_, _≤_, _<_, min}
 use mathlib.Core.Path.{_≡_, refl, sym, _∙_}
-use mathlib.Core.Bool.{Bool, true, false, _&&_}
+use mathlib.Core.Bool.{Bool, true, false, _&&_, _||_, not}
 use mathlib.Core.List.{List}
 use native.Mathlib.Omega.{arith}
 use native.Mathlib.Decide.{ℕ-discrete, decLe}
@@ -93,17 +93,22 @@ zero-ends l i e h = elim (decLe e i) [
   | no g ↦ rw (drop-of-length-le l {i = i} (omega arith), take-nil (e - i))
 ]
 
-pub zero-more : (l : List ℕ) (i e : ℕ) → i < length l → i < e → getD l i 0 ≡ 0 → allZero (take (e - (i + 1)) (drop (i + 1) l)) ≡ allZero (take (e - i) (drop i l))
-unfolding allZero
-zero-more l i e h g z =
-    let q : e - i ≡ suc (e - suc i) = omega arith in
-    rw (add-one, q, drop-cons l i 0 h, z)
+pub and-true-right : (a : Bool) → a && true ≡ a
+and-true-right true = refl
+and-true-right false = refl
 
-pub zero-fails : (l : List ℕ) (i e : ℕ) → i < length l → i < e → (getD l i 0 ≡ 0 → ⊥) → false ≡ allZero (take (e - i) (drop i l))
+-- One word more: what was found before it, and what is left.
+pub zero-more : (l : List ℕ) (i e : ℕ) (found : Bool) → i < length l → i < e
+    → not (not (eqb (getD l i 0) 0) || found) && allZero (take (e - (i + 1)) (drop (i + 1) l)) ≡ not found && allZero (take (e - i) (drop i l))
 unfolding allZero
-zero-fails l i e h g z =
+zero-more l i e found h g =
     let q : e - i ≡ suc (e - suc i) = omega arith in
-    rw (q, drop-cons l i 0 h, ne-eqb (getD l i 0) 0 z)
+    rw (add-one, q, drop-cons l i 0 h) (apart (eqb (getD l i 0) 0) found (allZero (take (e - suc i) (drop (suc i) l))))
+  where
+    apart : (a b c : Bool) → not (not a || b) && c ≡ not b && (a && c)
+    apart true b c = refl
+    apart false true c = refl
+    apart false false c = refl
 
 -- The refusal that is due at the head of a call, step by step: b is the answer of the bounds.
 module _ (allowed : Stage → Bool) (s : State) (f h : List ℕ) (b : ℕ) (eb : b ≡ boundsRefusal (s .n) (s .k) (length f) (length h)) where
