@@ -6,3 +6,4 @@ pub mod Turns
 pub mod Test
 pub mod Head
 pub mod Whole
+pub mod Only

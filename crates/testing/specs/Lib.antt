@@ -1,3 +1,4 @@
 pub mod Test
 pub mod Whole
+pub mod Only
 pub mod Laws

@@ -25,11 +25,11 @@ use Rattle.state.specs.declared.Stage.{Stage}
 use Rattle.state.specs.declared.Stage.the-variants.{Building, Built, Reading, Read}
 use Rattle.testing.specs.Test.{headButLinks}
 use Rattle.testing.specs.Whole.{Whole, Numbered}
+use Rattle.testing.specs.Only.{Only, Blank}
 use Rattle.testing.specs.Laws.Head.{head-known, head-is, head-passed}
 use Rattle.testing.specs.Laws.Whole.{passed-whole, passed-numbered}
+use Rattle.testing.specs.Laws.Only.{take-by, only-forest, only-whole}
 use Rattle.numbering.specs.Numbering.{numbered, numberedIn}
-use Rattle.numbering.specs.Order.{Only, Blank}
-use Rattle.numbering.specs.Laws.Only.{take-by, only-forest, only-whole}
 use Rattle.numbering.specs.Laws.Numbered.{numbered-only, numbered-turn, numbered-end, numbered-whose, number-refused, number-later, built-orderable, number-built}
 use Rattle.asking.specs.Laws.Asked.{same-piece}
 

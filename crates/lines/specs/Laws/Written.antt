@@ -17,10 +17,10 @@ use Rattle.state.specs.Test.{isRead}
 use Rattle.state.specs.Call.{headRefusal}
 use Rattle.state.specs.Laws.Clear.{wiped-length, wiped-within}
 use Rattle.state.specs.declared.State.{State}
+use Rattle.testing.specs.Only.{Only}
+use Rattle.testing.specs.Laws.Only.{only-trans, only-wider, only-forest, only-whole}
 use Rattle.text.specs.Lines.{store}
 use Rattle.reaches.specs.Spread.{cutAt, soleAt as marked, laid, spreadIn}
-use Rattle.reaches.specs.Order.{Only}
-use Rattle.reaches.specs.Laws.Only.{only-trans, only-wider, only-forest, only-whole}
 use Rattle.reaches.specs.Laws.Laid.{laid-piece, laid-cut, laid-sole, laid-only, cleared-before, cleared-behind, read-layable, spread-is}
 use Rattle.lines.specs.Report.{fragmentAt, soleAt, linesTo, solesFrom, reportLines, reportCall}
 use Rattle.text.specs.Put.{ample}

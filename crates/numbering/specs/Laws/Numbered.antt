@@ -24,12 +24,13 @@ use Rattle.state.specs.declared.State.{State}
 use Rattle.state.specs.declared.Stage.{Stage}
 use Rattle.state.specs.declared.Stage.the-variants.{Building, Built, Reading, Read}
 use Rattle.testing.specs.Test.{headButLinks}
+use Rattle.testing.specs.Only.{Only}
 use Rattle.testing.specs.Laws.Head.{Passed, head-known, head-passed}
 use Rattle.testing.specs.Laws.Whole.{passed-whole}
+use Rattle.testing.specs.Laws.Only.{only-trans, only-wider, only-forest, only-whole}
 use Rattle.numbering.specs.Numbering.{numbered, numberedIn}
-use Rattle.numbering.specs.Order.{Only, Orderable, Orders}
+use Rattle.numbering.specs.Order.{Orderable, Orders}
 use Rattle.numbering.specs.Passes.{Ready, Growable, Sizes, Sized, Passing, Turnable, Turns, Turned, Ends}
-use Rattle.numbering.specs.Laws.Only.{only-trans, only-wider, only-forest, only-whole}
 use Rattle.numbering.specs.Laws.Sizes.{ready-by}
 use Rattle.numbering.specs.Laws.Ends.{ends-whose}
 

@@ -24,10 +24,11 @@ use Rattle.rules.specs.Laws.Reading.{child-facts}
 use Rattle.rules.specs.Laws.Up.{par-in}
 use Rattle.state.specs.Layout.{forestIn}
 use Rattle.testing.specs.Whole.{Whole}
+use Rattle.testing.specs.Only.{Only}
 use Rattle.testing.specs.Laws.Whole.{levels}
-use Rattle.numbering.specs.Order.{Only, spotOf}
+use Rattle.testing.specs.Laws.Only.{only-refl, only-more, only-forest, only-whole}
+use Rattle.numbering.specs.Order.{spotOf}
 use Rattle.numbering.specs.Passes.{Ready, Small, grownAt, late, Growable, Growing, Sizes}
-use Rattle.numbering.specs.Laws.Only.{only-refl, only-more, only-forest, only-whole}
 use Rattle.numbering.specs.Laws.Order.{spot-in, spot-apart, spot-parent, ordered-some, ordered-back}
 use Rattle.numbering.specs.Laws.Sum.{sum-le, sum-more, if-same, if-le}
 

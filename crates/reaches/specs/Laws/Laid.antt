@@ -23,12 +23,12 @@ use Rattle.state.specs.Laws.Sound.{sound-known}
 use Rattle.state.specs.Laws.Keeps.{head-known}
 use Rattle.state.specs.Laws.KeepsReading.{not-building}
 use Rattle.state.specs.declared.State.{State}
+use Rattle.testing.specs.Only.{Only}
 use Rattle.testing.specs.Laws.Whole.{passed-numbered}
+use Rattle.testing.specs.Laws.Only.{only-forest}
 use Rattle.reaches.specs.Spread.{flag, cutAt, soleAt, laid, spreadIn}
-use Rattle.reaches.specs.Order.{Only}
 use Rattle.reaches.specs.Passes.{Ready, Layable}
 use Rattle.reaches.specs.Judged.{Lows, Pieces, Reached, Soles, cutSo, Cuttable, Cuts}
-use Rattle.reaches.specs.Laws.Only.{only-forest}
 use Rattle.reaches.specs.Laws.Passes.{ready-by}
 use Rattle.reaches.specs.Laws.Order.{numbered-ready}
 use Rattle.reaches.specs.Laws.Judged.{reached-by}

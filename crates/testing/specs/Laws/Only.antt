@@ -8,8 +8,8 @@ use lib.ListN.{length, getD, set, take, length-set, length-take}
 use lib.Seq.{ext-getD, getD-set-other, getD-take}
 use Rattle.state.specs.Layout.{stored, bare, forestIn}
 use Rattle.state.specs.Laws.Layout.{tables-frag-same}
 use Rattle.testing.specs.Whole.{Whole}
-use Rattle.numbering.specs.Order.{Only}
+use Rattle.testing.specs.Only.{Only}
 
 pub only-refl : (a b : ℕ) (f : List ℕ) → Only a b f f
 only-refl a b f = record { long = refl; before = λ i h. refl; behind = λ i h. refl }
