@@ -7,3 +7,4 @@ pub mod Test
 pub mod Head
 pub mod Whole
 pub mod Only
+pub mod Laid

@@ -30,7 +30,7 @@ use Rattle.testing.specs.Laws.Head.{head-known, head-is, head-passed}
 use Rattle.testing.specs.Laws.Whole.{passed-whole, passed-numbered}
 use Rattle.testing.specs.Laws.Only.{take-by, only-forest, only-whole}
 use Rattle.numbering.specs.Numbering.{numbered, numberedIn}
-use Rattle.numbering.specs.Laws.Numbered.{numbered-only, numbered-turn, numbered-end, numbered-whose, number-refused, number-later, built-orderable, number-built}
+use Rattle.numbering.specs.Laws.Numbered.{numbered-words, number-refused, number-later, built-orderable, number-built}
 use Rattle.asking.specs.Laws.Asked.{same-piece}
 
 -- The answer about v.
@@ -53,7 +53,7 @@ module _ (n : ℕ) (f : List ℕ) (w : Whole n f) where
   long = omega (arith, w .long)
 
   only : Only (4 * n) (7 * n) f g
-  only = numbered-only n t f long
+  only = numbered-words n t f long .only
 
   made-same : forestIn n g ≡ forestIn n f
   made-same = only-forest n (omega arith) only
@@ -61,9 +61,9 @@ module _ (n : ℕ) (f : List ℕ) (w : Whole n f) where
   made-numbered : Numbered n g
   made-numbered = record {
     whole = only-whole n (omega arith) only w;
-    turns = λ v h. sym (section-at n g 4 (4 * n + v) v refl h) ∙ numbered-turn n t f long v h ∙ ap (λ r. turn n r v) (sym made-same);
-    ends = λ v h. sym (section-at n g 5 (5 * n + v) v refl h) ∙ numbered-end n t f long v h ∙ ap (λ r. end n r v) (sym made-same);
-    whose = λ i h. sym (section-at n g 6 (6 * n + i) i refl h) ∙ numbered-whose n t f long i h ∙ ap (λ r. atTurn n r i) (sym made-same);
+    turns = λ v h. sym (section-at n g 4 (4 * n + v) v refl h) ∙ numbered-words n t f long .first v h ∙ ap (λ r. turn n r v) (sym made-same);
+    ends = λ v h. sym (section-at n g 5 (5 * n + v) v refl h) ∙ numbered-words n t f long .second v h ∙ ap (λ r. end n r v) (sym made-same);
+    whose = λ i h. sym (section-at n g 6 (6 * n + i) i refl h) ∙ numbered-words n t f long .third i h ∙ ap (λ r. atTurn n r i) (sym made-same);
   }
 
   behind-same : drop (7 * n) g ≡ drop (7 * n) f
