@@ -1,13 +1,12 @@
 -- The three sections laid in the table, that the passes one after another leave them, and what the head of a call gives.
 -- Assumes nothing.
-use Prim.Native.Nat.{ℕ, suc, _+_, _-_, _*_, _≤_, _<_}
+use Prim.Native.Nat.{ℕ, suc, _+_, _*_, _≤_, _<_}
 use mathlib.Core.Path.{_≡_, refl, sym, ap, _∙_}
 use mathlib.Core.Bool.{Bool, true, false}
 use mathlib.Core.List.{List}
 use native.Mathlib.Omega.{arith}
 use native.Mathlib.Decide.{decLt}
-use lib.ListN.{length, getD, take, drop, length-take, length-drop, getD-replicate}
-use lib.Seq.{getD-take, getD-drop}
+use lib.ListN.{length, getD}
 use lib.Dec.{T}
 use Rattle.base.specs.Pick.{tests}
 use Rattle.base.specs.Truth.{true-T, false-T}
@@ -15,8 +14,8 @@ use Rattle.rules.specs.Tables.{Tables}
 use Rattle.rules.specs.Numbers.{below, passed, turn, end, atTurn}
 use Rattle.state.specs.Layout.{stored, wiped, tablesIn, forestIn}
 use Rattle.state.specs.Test.{isBuilt, isNumbered}
-use Rattle.state.specs.Laws.Lists.{all-zeros}
-use Rattle.state.specs.Laws.Behind.{plain-zero}
+use Rattle.state.specs.Laws.Lists.{zero-at}
+use Rattle.state.specs.Laws.Behind.{behind-plain}
 use Rattle.state.specs.Laws.Clear.{wiped-length, wiped-before, wiped-within, wiped-behind}
 use Rattle.state.specs.declared.State.{State}
 use Rattle.state.specs.declared.Stage.{Stage}
@@ -129,12 +128,8 @@ not-numbered Read e x = absurd (false-T (isBuilt Read) refl (true-T (isBuilt Rea
 
 scratch-blank : {s : State} {f h : List ℕ} → Passed s f h → isBuilt (s .stage) ≡ true → (i : ℕ) → 4 * s .n ≤ i → i < 10 * s .n → getD f i 0 ≡ 0
 scratch-blank {s} {f} {h} p g i a b =
-    let n = s .n in
-    let long = p .bounds .frag-long in
-    let z = all-zeros (take (12 * n) (drop (stored * n) f)) (12 * n) (simp (length-take, length-drop) (omega arith)) (plain-zero (s .stage) n (tablesIn s f h) f (not-numbered (s .stage) g) (p .found .back)) in
-    let e : i ≡ stored * n + (i - 4 * n) = omega arith in
-    ap (λ (k : ℕ). getD f k 0) e ∙ sym (getD-drop (stored * n) f (i - 4 * n) 0) ∙ sym (getD-take (12 * n) (drop (stored * n) f) (i - 4 * n) 0 (omega arith))
-    ∙ ap (λ (x : List ℕ). getD x (i - 4 * n) 0) z ∙ getD-replicate (12 * n) (i - 4 * n) 0 0 (omega arith)
+    let zero = p .found .back ∙ behind-plain (s .n) (tablesIn s f h) (s .stage) (not-numbered (s .stage) g) in
+    zero-at (stored * s .n) (12 * s .n) f zero i a (omega arith)
 
 -- The head of a call: r is the refusal that is due, b whether the forest has just been built.
 module _ (allowed : Bool) (s : State) (f h : List ℕ) (r : ℕ) (e : r ≡ headButLinks allowed s f h) where

@@ -1,13 +1,12 @@
 -- The three sections laid in scratch, and that the passes one after another leave them.
 -- Assumes nothing.
-use Prim.Native.Nat.{ℕ, _+_, _-_, _*_, _≤_, _<_}
+use Prim.Native.Nat.{ℕ, _+_, _*_, _≤_, _<_}
 use mathlib.Core.Path.{_≡_, refl, sym, ap, _∙_}
 use mathlib.Core.List.{List}
 use native.Mathlib.Omega.{arith}
 use native.Mathlib.Decide.{decLt}
 use lib.Dec.{T}
-use lib.ListN.{length, getD, drop, getD-replicate}
-use lib.Seq.{getD-take, getD-drop}
+use lib.ListN.{length, getD}
 use Rattle.base.specs.Pick.{tests}
 use Rattle.base.specs.Truth.{or-r, T-false}
 use Rattle.rules.specs.Tables.{Tables, parentOf, rank, noteOf, placed, par, lev}
@@ -15,6 +14,7 @@ use Rattle.rules.specs.Reading.{above, lowest, reach, childOf, soleBelow, cut, 
 use Rattle.state.specs.Layout.{wiped, tablesIn, forestIn}
 use Rattle.state.specs.Test.{isBuilding, isReading, isRead, isNumbered}
 use Rattle.state.specs.Call.{headRefusal}
+use Rattle.state.specs.Laws.Lists.{zero-at}
 use Rattle.state.specs.Laws.Behind.{numbered-zero}
 use Rattle.state.specs.Laws.Clear.{wiped-length, wiped-before, wiped-within, wiped-behind}
 use Rattle.state.specs.Laws.Sound.{sound-known}
@@ -119,10 +119,7 @@ read-layable s f h e =
     let z = numbered-zero s (tablesIn s f h) f (k .bounds .frag-long) (S .back) b in
     record {
       ready = numbered-ready (passed-numbered {h = h} (record { bounds = k .bounds; settled = T-false (isBuilding (s .stage)) (not-building (s .stage) b); found = S }) b);
-      blank = λ i x y.
-          let q : i ≡ 7 * n + (i - 7 * n) = omega arith in
-          ap (λ (j : ℕ). getD f j 0) q ∙ sym (getD-drop (7 * n) f (i - 7 * n) 0) ∙ sym (getD-take (9 * n) (drop (7 * n) f) (i - 7 * n) 0 (omega arith))
-          ∙ ap (λ (r : List ℕ). getD r (i - 7 * n) 0) z ∙ getD-replicate (9 * n) (i - 7 * n) 0 0 (omega arith);
+      blank = λ i x y. zero-at (7 * n) (9 * n) f z i x (omega arith);
     }
 
 -- The answers are asked of the fragment table alone.
