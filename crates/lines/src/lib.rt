@@ -2,8 +2,8 @@
 ghost use mathlib.Core.Path.{_≡_};
 ghost use Prim.Native.Nat.{_+_, _*_, _<_, _≤_};
 ghost use Rattle.numbers.specs.Answers.{wrote};
-ghost use Rattle.reaches.specs.Order.{Only};
 ghost use Rattle.state.specs.Layout.{forestIn};
+ghost use Rattle.testing.specs.Only.{Only};
 ghost use Rattle.text.specs.Lines.{store};
 ghost use Rattle.text.specs.Put.{Put, Line, ample};
 ghost use Rattle.lines.specs.Report.{fragmentAt, linesTo, reportLines, reportCall};

@@ -13,7 +13,8 @@ use Rattle.rules.specs.Reading.{childOf}
 use Rattle.rules.specs.Numbers.{below, belowIf, passed, turn, end}
 use Rattle.state.specs.Layout.{forestIn}
 use Rattle.testing.specs.Whole.{Whole}
-use Rattle.numbering.specs.Order.{Only, Blank, spotOf, Ordered}
+use Rattle.testing.specs.Only.{Only, Blank}
+use Rattle.numbering.specs.Order.{spotOf, Ordered}
 
 -- A whole table with an order.
 pub record Ready (n : ℕ) (f : List ℕ) : Type 0 where

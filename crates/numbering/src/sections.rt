@@ -1,12 +1,3 @@
-// Sections that hold the numbers: the turn of each fragment,
-pub(crate) const TURN: usize = 4;
-
-// where those below it end,
-pub(crate) const END: usize = 5;
-
-// and whose each turn is.
-pub(crate) const WHOSE: usize = 6;
-
 // Scratch, 0 again at the end. The fragments by levels, parents before their children.
 pub(crate) const LEVELS: usize = 7;
 

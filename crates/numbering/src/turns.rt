@@ -4,13 +4,13 @@ ghost use Prim.Native.Nat.{_*_, _≤_, _<_};
 ghost use Rattle.state.specs.Layout.{forestIn};
 ghost use Rattle.testing.specs.Whole.{Whole};
 ghost use Rattle.numbering.specs.Passes.{Small, seatOf, Sized, Passing, turnedAt, Turnable, Turns, Turned, Ends};
-use crate::sections::END;
 use crate::sections::LEVELS;
 use crate::sections::SIZE;
-use crate::sections::TURN;
-use crate::sections::WHOSE;
 use crate::sizes::parent_in;
 use state::wide;
+use tables::END;
+use tables::TURN;
+use tables::WHOSE;
 
 // The word that counts those below the ones beside v.
 fn seat(frag: &[u32], n: usize, v: usize) -> usize

@@ -1,13 +1,12 @@
 -- What the first step of take and of close in Building leaves: the pieces of the held links, in scratch. Definitions only.
 -- Assumes nothing.
-use Prim.Native.Nat.{ℕ, suc, _-_, _*_}
+use Prim.Native.Nat.{ℕ, suc, _-_}
 use mathlib.Core.Bool.{false}
-use mathlib.Core.List.{List, _++_}
-use lib.ListN.{getD, take, drop}
+use mathlib.Core.List.{List}
+use lib.ListN.{getD}
 use lib.Dec.{eqb}
 use Rattle.base.specs.Pick.{pick}
 use Rattle.base.specs.Link.{Link}
-use Rattle.rules.specs.Search.{table}
 use Rattle.rules.specs.Tables.{Tables}
 use Rattle.rules.specs.Building.{pieces, member, sizeOf, heldIn}
 use Rattle.state.specs.Layout.{stored, begun, movedOn, heldLinks, tablesIn}
@@ -15,6 +14,7 @@ use Rattle.state.specs.Test.{isBuilding}
 use Rattle.state.specs.Call.{headRefusal}
 use Rattle.state.specs.declared.State.{State}
 use Rattle.state.specs.declared.Stage.the-variants.{Building}
+use Rattle.testing.specs.Laid.{laidAt}
 
 -- The tables of n fragments of which so many links are held, in Building.
 abbrev pub holds : ℕ → ℕ → State
@@ -37,9 +37,7 @@ heldAt l held v = pick (member l v v) (heldIn l held v) 0
 
 -- The three sections, between the words that stood before and behind them.
 unfoldable pub laid : ℕ → List ℕ → List Link → List ℕ → List ℕ
-laid n l held f =
-    take (stored * n) f
-    ++ (table (pointerOf l) n ++ (table (sizeAt n l) n ++ (table (heldAt l held) n ++ drop (7 * n) f)))
+laid n l held f = laidAt n stored (pointerOf l) (sizeAt n l) (heldAt l held) f
 
 -- The fragment table with the pieces that the held links make.
 unfoldable pub withPieces : ℕ → List Link → List ℕ → List ℕ

@@ -12,8 +12,8 @@ use Rattle.rules.specs.Tables.{Tables, par, lev}
 use Rattle.rules.specs.Reading.{reach, childOf, piece}
 use Rattle.state.specs.Layout.{forestIn}
 use Rattle.testing.specs.Whole.{Whole}
+use Rattle.testing.specs.Only.{Only, Blank}
 use Rattle.reaches.specs.Spread.{flag, soleAt}
-use Rattle.reaches.specs.Order.{Only, Blank}
 
 pub record Lows (n : ℕ) (f g : List ℕ) : Type 0 where
   pub only : Only (10 * n) (11 * n) f g

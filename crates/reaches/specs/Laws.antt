@@ -1,6 +1,5 @@
 -- Laws about the definitions, and the lemmas that the proofs of the code rest on.
 -- Assumes nothing.
-pub mod Only
 pub mod Passes
 pub mod Order
 pub mod Judged

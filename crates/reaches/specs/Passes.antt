@@ -9,7 +9,8 @@ use Rattle.rules.specs.Tables.{Tables, par}
 use Rattle.rules.specs.Reading.{above, lowest, rootOf}
 use Rattle.state.specs.Layout.{words, forestIn}
 use Rattle.testing.specs.Whole.{Whole}
-use Rattle.reaches.specs.Order.{Only, Blank, Ordered}
+use Rattle.testing.specs.Only.{Only, Blank}
+use Rattle.reaches.specs.Order.{Ordered}
 
 -- A whole table with an order.
 pub record Ready (n : ℕ) (f : List ℕ) : Type 0 where

@@ -1,18 +1,17 @@
 -- What the questions piece, cut and sole answer for all fragments, laid in scratch. Definitions only.
 -- Assumes nothing.
-use Prim.Native.Nat.{ℕ, _*_}
+use Prim.Native.Nat.{ℕ}
 use mathlib.Core.Bool.{Bool}
-use mathlib.Core.List.{List, _++_}
-use lib.ListN.{take, drop}
+use mathlib.Core.List.{List}
 use lib.Dec.{eqb}
 use Rattle.base.specs.Pick.{pick}
-use Rattle.rules.specs.Search.{table}
 use Rattle.rules.specs.Tables.{Tables, par}
 use Rattle.rules.specs.Reading.{soleBelow, cut, piece}
 use Rattle.state.specs.Layout.{tablesIn}
 use Rattle.state.specs.Test.{isRead}
 use Rattle.state.specs.Call.{headRefusal}
 use Rattle.state.specs.declared.State.{State}
+use Rattle.testing.specs.Laid.{laidAt}
 
 -- A verdict in a word: 1 for yes.
 unfoldable pub flag : Bool → ℕ
@@ -28,9 +27,7 @@ soleAt n t v = flag (soleBelow n t (par t v) v)
 
 -- Section 7, the piece, and those two, between the words that stood before and behind them.
 unfoldable pub laid : ℕ → Tables → List ℕ → List ℕ
-laid n t f =
-    take (7 * n) f
-    ++ (table (piece n t) n ++ (table (cutAt n t) n ++ (table (soleAt n t) n ++ drop (10 * n) f)))
+laid n t f = laidAt n 7 (piece n t) (cutAt n t) (soleAt n t) f
 
 -- Where a refusal is due at the head of a question that is asked in Read the table is as it was.
 unfoldable pub spreadIn : State → List ℕ → List ℕ → List ℕ

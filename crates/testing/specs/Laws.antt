@@ -6,3 +6,5 @@ pub mod Turns
 pub mod Test
 pub mod Head
 pub mod Whole
+pub mod Only
+pub mod Laid

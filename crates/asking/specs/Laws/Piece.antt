@@ -7,7 +7,7 @@ use mathlib.Core.List.{List}
 use native.Mathlib.Omega.{arith}
 use lib.Dec.{T, leb}
 use lib.ListN.{length, take, drop, length-take, length-drop}
-use lib.Seq.{ext-getD, getD-take, getD-drop}
+use lib.Seq.{getD-take, getD-drop}
 use Rattle.base.specs.Pick.{pick, tests}
 use Rattle.base.specs.Truth.{T-dec, T-true, T-false, true-T, false-T}
 use Rattle.base.specs.Answer.{gives, refuses}
@@ -25,12 +25,12 @@ use Rattle.state.specs.declared.Stage.{Stage}
 use Rattle.state.specs.declared.Stage.the-variants.{Building, Built, Reading, Read}
 use Rattle.testing.specs.Test.{headButLinks}
 use Rattle.testing.specs.Whole.{Whole, Numbered}
+use Rattle.testing.specs.Only.{Only, Blank}
 use Rattle.testing.specs.Laws.Head.{head-known, head-is, head-passed}
 use Rattle.testing.specs.Laws.Whole.{passed-whole, passed-numbered}
+use Rattle.testing.specs.Laws.Only.{take-by, drop-by, only-forest, only-whole}
 use Rattle.numbering.specs.Numbering.{numbered, numberedIn}
-use Rattle.numbering.specs.Order.{Only, Blank}
-use Rattle.numbering.specs.Laws.Only.{take-by, only-forest, only-whole}
-use Rattle.numbering.specs.Laws.Numbered.{numbered-only, numbered-turn, numbered-end, numbered-whose, number-refused, number-later, built-orderable, number-built}
+use Rattle.numbering.specs.Laws.Numbered.{numbered-words, number-refused, number-later, built-orderable, number-built}
 use Rattle.asking.specs.Laws.Asked.{same-piece}
 
 -- The answer about v.
@@ -53,7 +53,7 @@ module _ (n : ℕ) (f : List ℕ) (w : Whole n f) where
   long = omega (arith, w .long)
 
   only : Only (4 * n) (7 * n) f g
-  only = numbered-only n t f long
+  only = numbered-words n t f long .only
 
   made-same : forestIn n g ≡ forestIn n f
   made-same = only-forest n (omega arith) only
@@ -61,14 +61,10 @@ module _ (n : ℕ) (f : List ℕ) (w : Whole n f) where
   made-numbered : Numbered n g
   made-numbered = record {
     whole = only-whole n (omega arith) only w;
-    turns = λ v h. sym (section-at n g 4 (4 * n + v) v refl h) ∙ numbered-turn n t f long v h ∙ ap (λ r. turn n r v) (sym made-same);
-    ends = λ v h. sym (section-at n g 5 (5 * n + v) v refl h) ∙ numbered-end n t f long v h ∙ ap (λ r. end n r v) (sym made-same);
-    whose = λ i h. sym (section-at n g 6 (6 * n + i) i refl h) ∙ numbered-whose n t f long i h ∙ ap (λ r. atTurn n r i) (sym made-same);
+    turns = λ v h. sym (section-at n g 4 (4 * n + v) v refl h) ∙ numbered-words n t f long .first v h ∙ ap (λ r. turn n r v) (sym made-same);
+    ends = λ v h. sym (section-at n g 5 (5 * n + v) v refl h) ∙ numbered-words n t f long .second v h ∙ ap (λ r. end n r v) (sym made-same);
+    whose = λ i h. sym (section-at n g 6 (6 * n + i) i refl h) ∙ numbered-words n t f long .third i h ∙ ap (λ r. atTurn n r i) (sym made-same);
   }
-
-  behind-same : drop (7 * n) g ≡ drop (7 * n) f
-  behind-same = ext-getD 0 (drop (7 * n) g) (drop (7 * n) f) (simp length-drop (omega (arith, only .long))) (λ i h.
-      getD-drop (7 * n) g i 0 ∙ only .behind (7 * n + i) (omega arith) ∙ sym (getD-drop (7 * n) f i 0))
 
   zero-between : Blank (4 * n) (10 * n) f → T (allZero (drop (4 * n) (take (7 * n) f)))
   zero-between b =
@@ -77,7 +73,7 @@ module _ (n : ℕ) (f : List ℕ) (w : Whole n f) where
       rw (e, drop-take (4 * n) (3 * n) f, z) (zeros-pass (3 * n))
 
   made-back : Blank (4 * n) (10 * n) f → wiped (4 * n) (7 * n) g ≡ f
-  made-back b = wiped-back (4 * n) (7 * n) f g (omega arith) long (only .long) (zero-between b) (take-by (4 * n) f g (only .long) (only .before)) behind-same
+  made-back b = wiped-back (4 * n) (7 * n) f g (omega arith) long (only .long) (zero-between b) (take-by (4 * n) f g (only .long) (only .before)) (drop-by (7 * n) f g (only .long) (only .behind))
 
 -- A question may be asked where the forest has just been built, and where it is numbered.
 numbered-stage : (g : Stage) → asks g ≡ true → isBuilt g ≡ false → T (isNumbered g)

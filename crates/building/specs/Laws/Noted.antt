@@ -21,10 +21,9 @@ use Rattle.rules.specs.Laws.Links.{between-here, linked-nil, linked-turn, appen
 use Rattle.state.specs.Layout.{wiped, words, linkIn, wordOf, heldLinks}
 use Rattle.state.specs.Laws.Words.{link-word, word-small, word-some}
 use Rattle.state.specs.Call.{fragmentsMost}
-use Rattle.state.specs.Laws.Clear.{wiped-length, wiped-front, wiped-past}
+use Rattle.state.specs.Laws.Clear.{wiped-length, wiped-front, wiped-past, wiped-within}
 use Rattle.index.specs.Index.{flag, Place, In}
 use Rattle.building.specs.Noted.{Ends, slotAt, linkAt, wholeAt, Whole, Noted, Apart, Askable, Flags, Learnable, Flaggable, Stands, Fresh, Matching, Unnoted}
-use Rattle.differing.specs.Laws.Scratch.{wiped-within}
 use Rattle.index.specs.Laws.Index.{indexed-none, indexed-same, not-noted, is-noted, one-slot, set-indexed}
 use Rattle.differing.specs.Laws.Batches.{one-word}
 

@@ -19,23 +19,25 @@ use Rattle.rules.specs.Laws.Pieces.{Inside, label-in, pieces-length}
 use Rattle.rules.specs.Laws.Tables.{placed-rank, rank-placed}
 use Rattle.state.specs.Layout.{heldLinks, wiped, words, stored, radix, section, linkIn, tablesIn, forestIn, fragOf, bare}
 use Rattle.state.specs.Test.{endsFit, noneTwice}
-use Rattle.state.specs.Laws.Clear.{wiped-is, wiped-length}
+use Rattle.state.specs.Laws.Clear.{wiped-is, wiped-length, wiped-before, wiped-within, wiped-behind}
 use Rattle.state.specs.Laws.Held.{once-made}
 use Rattle.state.specs.Laws.Layout.{section-length, section-at, level-word}
 use Rattle.state.specs.Laws.Lists.{zeros}
 use Rattle.state.specs.Laws.Behind.{behind-plain}
 use Rattle.state.specs.declared.Stage.the-variants.{Building}
+use Rattle.testing.specs.Laid.{Laid}
+use Rattle.testing.specs.Laws.Only.{drop-by}
 use Rattle.closing.specs.Arranged.{Arrangeable, Arranges}
 use Rattle.closing.specs.Arranging.{nextOr}
 use Rattle.closing.specs.Walk.{Wide}
 use Rattle.closing.specs.Closing.{labelsIn, Labels, Chainable, Chains, PlacesAll, Endable, Prepares, EndsPass}
-use Rattle.pieces.specs.Gathered.{heldTables, pointerOf, withPieces}
-use Rattle.differing.specs.Laws.Scratch.{wiped-before, wiped-within, wiped-behind, blank-at}
-use Rattle.pieces.specs.Laws.Gathered.{pointer-own, pointer-other, laid-length, laid-before, laid-pointer, laid-behind}
+use Rattle.pieces.specs.Gathered.{heldTables, pointerOf, sizeAt, heldAt, withPieces}
+use Rattle.differing.specs.Laws.Scratch.{blank-at}
+use Rattle.pieces.specs.Laws.Gathered.{pointer-own, pointer-other, pieces-words}
 use Rattle.pieces.specs.Laws.Gather.{link-there}
 use Rattle.closing.specs.Laws.Members.{membered-by}
 use Rattle.closing.specs.Laws.Choosing.{label-by}
-use Rattle.closing.specs.Laws.Frames.{section-by, drop-by, wide-by}
+use Rattle.closing.specs.Laws.Frames.{section-by, wide-by}
 
 -- The fragments below v have their labels.
 pub record Labelling (n : ℕ) (f₀ : List ℕ) (v : ℕ) (f : List ℕ) : Type 0 where
@@ -141,28 +143,16 @@ module _ (n c : ℕ) (f h : List ℕ) (W : Endable n c f h) where
     abbrev all : List ℕ
     all = pieces n (heldLinks c h)
 
-    long₁ : length f₁ ≡ length f
+    laid₁ : Laid n stored (pointerOf all) (sizeAt n all) (heldAt all (heldLinks c h)) f f₁
     unfolding withPieces
-    long₁ = ap length e₁ ∙ laid-length n all (heldLinks c h) f seven
-
-    before₁ : (i : ℕ) → i < 4 * n → getD f₁ i 0 ≡ getD f i 0
-    unfolding withPieces
-    before₁ i l = ap (λ (g : List ℕ). getD g i 0) e₁ ∙ laid-before n all (heldLinks c h) f seven i l
-
-    pointer₁ : (v : ℕ) → v < n → getD f₁ (4 * n + v) 0 ≡ pointerOf all v
-    unfolding withPieces
-    pointer₁ v l = ap (λ (g : List ℕ). getD g (4 * n + v) 0) e₁ ∙ laid-pointer n all (heldLinks c h) f seven v l
-
-    behind₁ : (i : ℕ) → 7 * n ≤ i → getD f₁ i 0 ≡ getD f i 0
-    unfolding withPieces
-    behind₁ i l = ap (λ (g : List ℕ). getD g i 0) e₁ ∙ laid-behind n all (heldLinks c h) f seven i l
+    laid₁ = rw e₁ (pieces-words n all (heldLinks c h) f seven)
 
     pub end-wide : Wide n f₁
-    end-wide = wide-by long₁ (W .wide)
+    end-wide = wide-by (laid₁ .only .long) (W .wide)
 
     module _ (f₂ : List ℕ) (L : Labels n f₁ f₂) where
       long₂ : length f₂ ≡ length f
-      long₂ = L .same-long ∙ long₁
+      long₂ = L .same-long ∙ laid₁ .only .long
 
       pub end-wipable : 7 * n ≤ length f₂
       end-wipable = omega (arith, W .wide .long, long₂)
@@ -172,7 +162,7 @@ module _ (n c : ℕ) (f h : List ℕ) (W : Endable n c f h) where
         long₃ = ap length e₃ ∙ wiped-length (4 * n) (7 * n) f₂ (omega arith) end-wipable ∙ long₂
 
         before₃ : (i : ℕ) → i < 4 * n → getD f₃ i 0 ≡ getD f i 0
-        before₃ i l = ap (λ (g : List ℕ). getD g i 0) e₃ ∙ wiped-before (4 * n) (7 * n) f₂ (omega arith) end-wipable i l ∙ L .before i (omega arith) ∙ before₁ i l
+        before₃ i l = ap (λ (g : List ℕ). getD g i 0) e₃ ∙ wiped-before (4 * n) (7 * n) f₂ (omega arith) end-wipable i l ∙ L .before i (omega arith) ∙ laid₁ .only .before i l
 
         blank₃ : (i : ℕ) → 4 * n ≤ i → i < 7 * n → getD f₃ i 0 ≡ 0
         blank₃ i a b = ap (λ (g : List ℕ). getD g i 0) e₃ ∙ wiped-within (4 * n) (7 * n) f₂ (omega arith) end-wipable i a b
@@ -181,7 +171,7 @@ module _ (n c : ℕ) (f h : List ℕ) (W : Endable n c f h) where
         behind₃ i l = ap (λ (g : List ℕ). getD g i 0) e₃ ∙ wiped-behind (4 * n) (7 * n) f₂ (omega arith) end-wipable i l
 
         rest₃ : (i : ℕ) → 8 * n ≤ i → getD f₃ i 0 ≡ getD f i 0
-        rest₃ i l = behind₃ i (omega arith) ∙ L .behind i l ∙ behind₁ i (omega arith)
+        rest₃ i l = behind₃ i (omega arith) ∙ L .behind i l ∙ laid₁ .only .behind i (omega arith)
 
         found : labelsIn n f₂ ≡ all
         found =
@@ -189,7 +179,7 @@ module _ (n c : ℕ) (f h : List ℕ) (W : Endable n c f h) where
             let k = section-length n f₂ 7 long in
             ext-getD 0 (labelsIn n f₂) all (k ∙ sym (pieces-length n (heldLinks c h))) (λ i g.
             let l : i < n = omega arith in
-            sym (section-at n f₂ 7 (7 * n + i) i refl l) ∙ L .labels i l ∙ ap (nextOr i) (pointer₁ i l) ∙ told-label n all i)
+            sym (section-at n f₂ 7 (7 * n + i) i refl l) ∙ L .labels i l ∙ ap (nextOr i) (laid₁ .first i l) ∙ told-label n all i)
 
         pub end-chainable : Chainable n f₃
         end-chainable = record {
@@ -261,10 +251,10 @@ module _ (n c : ℕ) (f h : List ℕ) (W : Endable n c f h) (f₁ h₁ : List �
   end-long = omega (arith, W .wide .long, long-two)
 
   past-two : drop (words * n) f₂ ≡ drop (words * n) f
-  past-two = drop-by (words * n) f₂ f long-two (λ i l. A h (P .closable) .beside .past i l ∙ P .past i l)
+  past-two = drop-by (words * n) f f₂ long-two (λ i l. A h (P .closable) .beside .past i l ∙ P .past i l)
 
   held-same : wiped 0 c h₁ ≡ wiped 0 c h
-  held-same = rw (wiped-is 0 c h₁ (omega arith) (omega (arith, W .there, P .held-long)), wiped-is 0 c h (omega arith) (W .there), drop-by c h₁ h (P .held-long) (P .held-past))
+  held-same = rw (wiped-is 0 c h₁ (omega arith) (omega (arith, W .there, P .held-long)), wiped-is 0 c h (omega arith) (W .there), drop-by c h h₁ (P .held-long) (P .held-past))
 
   pub end-laid : (f₃ h₃ : List ℕ) → f₃ ≡ wiped (2 * n) (words * n) f₂ → h₃ ≡ wiped 0 c h₁ → EndsPass n c f h f₃ h₃
   unfolding closeBuilding

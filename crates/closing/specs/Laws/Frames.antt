@@ -1,11 +1,11 @@
 -- What did not change, and what is then still known: sections, labels, chains and arranged links.
 -- Assumes nothing.
 use Prim.Native.Nat.{ℕ, suc, _+_, _-_, _*_, _≤_, _<_}
-use mathlib.Core.Path.{_≡_, refl, sym, ap, _∙_}
+use mathlib.Core.Path.{_≡_, refl, sym, _∙_}
 use mathlib.Core.List.{List}
 use native.Mathlib.Omega.{arith}
 use native.Mathlib.Nat.{mul-le-mul-right}
-use lib.ListN.{length, getD, drop, length-drop}
+use lib.ListN.{length, getD, drop}
 use lib.Seq.{ext-getD, getD-drop}
 use Rattle.state.specs.Layout.{section}
 use Rattle.state.specs.Laws.Layout.{section-length, section-at}
@@ -15,18 +15,13 @@ use Rattle.closing.specs.Walk.{Wide}
 use Rattle.closing.specs.Laws.Members.{membered-by}
 use Rattle.closing.specs.Laws.Walking.{arranged-kept}
 
--- Parts of tables that are equal word by word.
+-- Sections that are equal word by word.
 pub section-by : (n j i : ℕ) (f g : List ℕ) → suc j * n ≤ length f → suc i * n ≤ length g → ((v : ℕ) → v < n → getD f (j * n + v) 0 ≡ getD g (i * n + v) 0) → section n j f ≡ section n i g
 section-by n j i f g a b e =
     let l = section-length n f j a in
     ext-getD 0 (section n j f) (section n i g) (l ∙ sym (section-length n g i b)) (λ v h.
     let k : v < n = omega arith in
     sym (section-at n f j (j * n + v) v refl k) ∙ e v k ∙ section-at n g i (i * n + v) v refl k)
-
-pub drop-by : (m : ℕ) (f g : List ℕ) → length f ≡ length g → ((i : ℕ) → m ≤ i → getD f i 0 ≡ getD g i 0) → drop m f ≡ drop m g
-drop-by m f g l e =
-    ext-getD 0 (drop m f) (drop m g) (length-drop m f ∙ ap (λ (k : ℕ). k - m) l ∙ sym (length-drop m g)) (λ i h.
-    getD-drop m f i 0 ∙ e (m + i) (omega arith) ∙ sym (getD-drop m g i 0))
 
 -- Frames: what did not change.
 pub frame-refl : (n from to : ℕ) (f : List ℕ) → Frame n from to f f

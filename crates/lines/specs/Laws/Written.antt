@@ -15,13 +15,13 @@ use Rattle.rules.specs.Reading.{above, lowest, reach, childOf, soleBelow, sole,
 use Rattle.state.specs.Layout.{wiped, tablesIn, forestIn}
 use Rattle.state.specs.Test.{isRead}
 use Rattle.state.specs.Call.{headRefusal}
-use Rattle.state.specs.Laws.Clear.{wiped-length, wiped-within}
+use Rattle.state.specs.Laws.Clear.{wiped-length, wiped-before, wiped-within, wiped-behind}
 use Rattle.state.specs.declared.State.{State}
+use Rattle.testing.specs.Only.{Only}
+use Rattle.testing.specs.Laws.Only.{only-trans, only-wider, only-forest, only-whole}
 use Rattle.text.specs.Lines.{store}
 use Rattle.reaches.specs.Spread.{cutAt, soleAt as marked, laid, spreadIn}
-use Rattle.reaches.specs.Order.{Only}
-use Rattle.reaches.specs.Laws.Only.{only-trans, only-wider, only-forest, only-whole}
-use Rattle.reaches.specs.Laws.Laid.{laid-piece, laid-cut, laid-sole, laid-only, cleared-before, cleared-behind, read-layable, spread-is}
+use Rattle.reaches.specs.Laws.Laid.{spread-words, read-layable, spread-is}
 use Rattle.lines.specs.Report.{fragmentAt, soleAt, linesTo, solesFrom, reportLines, reportCall}
 use Rattle.text.specs.Put.{ample}
 use Rattle.lines.specs.Threads.{Threadable, Threads, Threaded}
@@ -58,7 +58,7 @@ module _ (s : State) (f h : List ℕ) (r : ℕ) (e : r ≡ headRefusal isRead s 
   long = read-layable s f h (sym e ∙ z) .ready .whole .long
 
   answered : Only (7 * s .n) (10 * s .n) f g
-  answered = rw was (laid-only (s .n) (forestIn (s .n) f) f (omega (arith, long)))
+  answered = rw was (spread-words (s .n) (forestIn (s .n) f) f (omega (arith, long)) .only)
 
   answered-forest : forestIn (s .n) g ≡ forestIn (s .n) f
   answered-forest = only-forest (s .n) (omega arith) answered
@@ -67,15 +67,15 @@ module _ (s : State) (f h : List ℕ) (r : ℕ) (e : r ≡ headRefusal isRead s 
   answered-fit =
       let n = s .n in
       let t = forestIn n f in
-      let l : 10 * n ≤ length f = omega (arith, long) in
+      let w = spread-words n t f (omega (arith, long)) in
       let o = read-layable s f h (sym e ∙ z) in
       let at : (i : ℕ) → getD g i 0 ≡ getD (laid n t f) i 0 = λ i. ap (λ (x : List ℕ). getD x i 0) was in
       record {
         answers = record {
           whole = only-whole n (omega arith) answered (o .ready .whole);
-          pieces = λ v k. at (7 * n + v) ∙ laid-piece n t f l v k ∙ ap (λ x. piece n x v) (sym answered-forest);
-          cuts = λ v k. at (8 * n + v) ∙ laid-cut n t f l v k ∙ ap (λ x. cutAt n x v) (sym answered-forest);
-          soles = λ v k. at (9 * n + v) ∙ laid-sole n t f l v k ∙ ap (λ x. marked n x v) (sym answered-forest);
+          pieces = λ v k. at (7 * n + v) ∙ w .first v k ∙ ap (λ x. piece n x v) (sym answered-forest);
+          cuts = λ v k. at (8 * n + v) ∙ w .second v k ∙ ap (λ x. cutAt n x v) (sym answered-forest);
+          soles = λ v k. at (9 * n + v) ∙ w .third v k ∙ ap (λ x. marked n x v) (sym answered-forest);
         };
         blank = λ i a b. answered .behind i a ∙ o .blank i (omega arith) (omega arith);
       }
@@ -91,9 +91,9 @@ module _ (s : State) (f h : List ℕ) (r : ℕ) (e : r ≡ headRefusal isRead s 
       let w : Only (7 * n) (12 * n) f k = only-trans (only-wider (omega arith) (omega arith) answered) (only-wider (omega arith) (omega arith) q) in
       let l : 16 * n ≤ length k = omega (arith, long, w .long) in
       ext-getD 0 (wiped (7 * n) (16 * n) k) f (wiped-length (7 * n) (16 * n) k (omega arith) l ∙ w .long) (λ i b. elim (decLt i (7 * n)) [
-        | yes a ↦ cleared-before (7 * n) (16 * n) k (omega arith) l i a ∙ w .before i a
+        | yes a ↦ wiped-before (7 * n) (16 * n) k (omega arith) l i a ∙ w .before i a
         | no a ↦ elim (decLt i (16 * n)) [
           | yes c ↦ wiped-within (7 * n) (16 * n) k (omega arith) l i (omega arith) c ∙ sym (o .blank i (omega arith) c)
-          | no c ↦ cleared-behind (7 * n) (16 * n) k (omega arith) l i (omega arith) ∙ w .behind i (omega arith)
+          | no c ↦ wiped-behind (7 * n) (16 * n) k (omega arith) l i (omega arith) ∙ w .behind i (omega arith)
         ]
       ])

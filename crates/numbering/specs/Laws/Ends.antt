@@ -14,8 +14,8 @@ use Rattle.rules.specs.Laws.Numbers.{turn-in, turn-one, turn-at}
 use Rattle.state.specs.Layout.{forestIn}
 use Rattle.testing.specs.Whole.{Whole}
 use Rattle.testing.specs.Laws.Whole.{levels}
+use Rattle.testing.specs.Laws.Only.{only-refl, only-more}
 use Rattle.numbering.specs.Passes.{Turned, Ends}
-use Rattle.numbering.specs.Laws.Only.{only-refl, only-more}
 use Rattle.numbering.specs.Laws.Sizes.{below-most}
 
 end-is : (n : ℕ) (t : Tables) (v : ℕ) → end n t v ≡ turn n t v + below n t v

@@ -25,8 +25,8 @@ use Rattle.rules.specs.Laws.Up.{par-in}
 use Rattle.state.specs.Layout.{forestIn}
 use Rattle.testing.specs.Whole.{Whole}
 use Rattle.testing.specs.Laws.Whole.{levels}
+use Rattle.testing.specs.Laws.Only.{only-refl, only-more, only-forest, only-whole}
 use Rattle.numbering.specs.Passes.{seatOf, sits, Sized, Passing}
-use Rattle.numbering.specs.Laws.Only.{only-refl, only-more, only-forest, only-whole}
 use Rattle.numbering.specs.Laws.Sum.{if-same}
 use Rattle.numbering.specs.Laws.Sizes.{below-most}
 

@@ -18,18 +18,19 @@ use Rattle.rules.specs.Reading.{above, childOf}
 use Rattle.rules.specs.Numbers.{below, belowIf}
 use Rattle.rules.specs.Laws.Search.{count-le}
 use Rattle.rules.specs.Laws.Tally.{sum-most}
-use Rattle.rules.specs.Laws.Sums.{sum-same}
+use Rattle.rules.specs.Laws.Sums.{sum-same, sum-more}
 use Rattle.rules.specs.Laws.Below.{below-children, below-if-yes, below-if-no}
 use Rattle.rules.specs.Laws.Reading.{child-facts}
 use Rattle.rules.specs.Laws.Up.{par-in}
 use Rattle.state.specs.Layout.{forestIn}
 use Rattle.testing.specs.Whole.{Whole}
+use Rattle.testing.specs.Only.{Only}
 use Rattle.testing.specs.Laws.Whole.{levels}
-use Rattle.numbering.specs.Order.{Only, spotOf}
+use Rattle.testing.specs.Laws.Only.{only-refl, only-more, only-forest, only-whole}
+use Rattle.numbering.specs.Order.{spotOf}
 use Rattle.numbering.specs.Passes.{Ready, Small, grownAt, late, Growable, Growing, Sizes}
-use Rattle.numbering.specs.Laws.Only.{only-refl, only-more, only-forest, only-whole}
 use Rattle.numbering.specs.Laws.Order.{spot-in, spot-apart, spot-parent, ordered-some, ordered-back}
-use Rattle.numbering.specs.Laws.Sum.{sum-le, sum-more, if-same, if-le}
+use Rattle.numbering.specs.Laws.Sum.{sum-le, if-same, if-le}
 
 pub below-most : (n : ℕ) (t : Tables) (v : ℕ) → below n t v ≤ n
 unfolding below

@@ -1,30 +1,20 @@
--- Sums whose parts grow, and what stands below those that pass a test.
+-- Sums that are no greater, and what stands below those that pass a test.
 -- Assumes nothing.
-use Prim.Native.Nat.{ℕ, zero, suc, _+_, _≤_, _<_}
-use mathlib.Core.Path.{_≡_, sym, ap, _∙_}
+use Prim.Native.Nat.{ℕ, zero, suc, _≤_, _<_}
+use mathlib.Core.Path.{_≡_, sym, _∙_}
 use mathlib.Core.Bool.{Bool}
-use mathlib.Core.Logic.{_≢_}
 use native.Mathlib.Omega.{arith}
-use native.Mathlib.Decide.{ℕ-discrete}
 use lib.Dec.{T}
 use Rattle.base.specs.Truth.{T-dec}
 use Rattle.rules.specs.Search.{sum}
 use Rattle.rules.specs.Tables.{Tables}
 use Rattle.rules.specs.Numbers.{belowIf}
-use Rattle.rules.specs.Laws.Sums.{sum-zero, sum-suc, sum-same}
+use Rattle.rules.specs.Laws.Sums.{sum-zero, sum-suc}
 use Rattle.rules.specs.Laws.Below.{below-if-yes, below-if-no}
 
 pub sum-le : (f g : ℕ → ℕ) (n : ℕ) → ((i : ℕ) → i < n → f i ≤ g i) → sum f n ≤ sum g n
 sum-le f g zero e = omega (arith, sum-zero f)
 sum-le f g (suc n) e = omega (arith, sum-suc f n, sum-suc g n, e n (omega arith), sum-le f g n (λ i h. e i (omega arith)))
-
--- One part is greater by x.
-pub sum-more : (f g : ℕ → ℕ) (n v x : ℕ) → v < n → g v ≡ f v + x → ((i : ℕ) → i < n → i ≢ v → g i ≡ f i) → sum g n ≡ sum f n + x
-sum-more f g zero v x h e o = absurd (omega arith)
-sum-more f g (suc n) v x h e o = elim (ℕ-discrete v n) [
-  | yes z ↦ omega (arith, sum-suc f n, sum-suc g n, ap f z, ap g z, e, sum-same g f n (λ i l. o i (omega arith) (omega arith)))
-  | no d ↦ omega (arith, sum-suc f n, sum-suc g n, o n (omega arith) (omega arith), sum-more f g n v x (omega arith) e (λ i l. o i (omega arith)))
-]
 
 module _ (n : ℕ) (t : Tables) where
   pub if-same : (p q : ℕ → Bool) (c : ℕ) → (T (p c) → T (q c)) → (T (q c) → T (p c)) → belowIf n t p c ≡ belowIf n t q c

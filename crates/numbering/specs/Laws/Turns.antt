@@ -15,10 +15,11 @@ use Rattle.rules.specs.Laws.Up.{par-in}
 use Rattle.rules.specs.Laws.Numbers.{turn-root, turn-child, turn-in}
 use Rattle.state.specs.Layout.{forestIn}
 use Rattle.testing.specs.Whole.{Whole}
+use Rattle.testing.specs.Only.{Only}
 use Rattle.testing.specs.Laws.Whole.{levels}
-use Rattle.numbering.specs.Order.{Only, spotOf}
+use Rattle.testing.specs.Laws.Only.{only-refl, only-more, only-forest, only-whole}
+use Rattle.numbering.specs.Order.{spotOf}
 use Rattle.numbering.specs.Passes.{Small, turnedAt, Turnable, Turning, Turns}
-use Rattle.numbering.specs.Laws.Only.{only-refl, only-more, only-forest, only-whole}
 use Rattle.numbering.specs.Laws.Order.{spot-in, spot-apart, spot-parent, ordered-some, ordered-back}
 
 pub turning-none : (n : ℕ) (f : List ℕ) → Turnable n f → Turning n 0 f f

@@ -3,23 +3,26 @@
 use Prim.Native.Nat.{ℕ, suc, _+_, _-_, _*_, _≤_, _<_}
 use mathlib.Core.Path.{_≡_, refl, sym, ap, _∙_}
 use mathlib.Core.Bool.{Bool, true, false}
-use mathlib.Core.List.{List, _++_}
+use mathlib.Core.List.{List}
 use mathlib.Core.Logic.{_⊎_, inl, inr, _≢_}
 use native.Mathlib.Omega.{arith}
-use native.Mathlib.Decide.{ℕ-discrete, decLt}
-use lib.ListN.{length, getD, set, take, drop, length-set, length-append, length-take, length-drop, List·getD-append}
-use lib.Seq.{ext-getD, getD-set-same, getD-set-other, getD-take, getD-drop, getD-append-add, take-at}
+use native.Mathlib.Decide.{ℕ-discrete}
+use lib.ListN.{length, getD, set, length-set}
+use lib.Seq.{getD-set-same, getD-set-other}
 use Rattle.base.specs.Pick.{pick, pick-true, pick-false, tests}
 use Rattle.base.specs.Truth.{T-true, T-false}
 use Rattle.base.specs.Link.{Link}
-use Rattle.rules.specs.Search.{table}
 use Rattle.rules.specs.Building.{pieces, member, sizeOf, heldIn}
-use Rattle.rules.specs.Laws.Search.{table-length, table-at, some-count}
+use Rattle.rules.specs.Laws.Search.{some-count}
 use Rattle.rules.specs.Laws.Pieces.{label-le, label-own, member-intro, member-elim}
 use Rattle.state.specs.Layout.{words, stored, heldLinks}
 use Rattle.state.specs.Test.{isBuilding}
 use Rattle.state.specs.Call.{headRefusal}
 use Rattle.state.specs.declared.State.{State}
+use Rattle.testing.specs.Only.{Only}
+use Rattle.testing.specs.Laid.{laidAt, Laid}
+use Rattle.testing.specs.Laws.Only.{take-by, drop-by}
+use Rattle.testing.specs.Laws.Laid.{laid-words, laid-is}
 use Rattle.pieces.specs.Gathered.{pointerOf, sizeAt, heldAt, laid, withPieces, gatheredIn}
 use Rattle.pieces.specs.Pieces.{Gathered, Kept, Gatherable, Gathers, Shortable, Shortens, shorter, shortAt}
 use Rattle.pieces.specs.Laws.Gather.{links-length}
@@ -62,99 +65,17 @@ module _ (n : ℕ) (l : List ℕ) (held : List Link) (v : ℕ) where
     unfolding heldAt
     held-other = rw other (pick-false _ _)
 
--- A word behind the first part of a list.
-past-part : (p r : List ℕ) (m j : ℕ) → length p ≡ m → getD (p ++ r) (m + j) 0 ≡ getD r j 0
-past-part p r m j e = ap (λ (k : ℕ). getD (p ++ r) (k + j) 0) (sym e) ∙ getD-append-add p r j 0
-
 -- The words of the table with the pieces laid.
-module _ (n : ℕ) (l : List ℕ) (held : List Link) (f : List ℕ) (long : 7 * n ≤ length f) where
-  abbrev low : List ℕ
-  low = take (stored * n) f
+pub pieces-words : (n : ℕ) (l : List ℕ) (held : List Link) (f : List ℕ) → 7 * n ≤ length f → Laid n stored (pointerOf l) (sizeAt n l) (heldAt l held) f (laid n l held f)
+unfolding laid
+pieces-words n l held f long = laid-words n stored (pointerOf l) (sizeAt n l) (heldAt l held) f long
 
-  abbrev pointers : List ℕ
-  pointers = table (pointerOf l) n
-
-  abbrev sizes : List ℕ
-  sizes = table (sizeAt n l) n
-
-  abbrev counts : List ℕ
-  counts = table (heldAt l held) n
-
-  low-length : length low ≡ stored * n
-  low-length = simp length-take (omega arith)
-
-  pub laid-length : length (laid n l held f) ≡ length f
-  unfolding laid
-  laid-length = simp (length-append, length-take, length-drop, table-length) (omega arith)
-
-  pub laid-front : take (stored * n) (laid n l held f) ≡ take (stored * n) f
-  unfolding laid
-  laid-front = take-at low _ (stored * n) low-length
-
-  pub laid-before : (i : ℕ) → i < stored * n → getD (laid n l held f) i 0 ≡ getD f i 0
-  unfolding laid
-  laid-before i h = List·getD-append low _ 0 i (omega (arith, low-length)) ∙ getD-take (stored * n) f i 0 h
-
-  -- Word j of the three sections and what stands behind them.
-  laid-on : (i j : ℕ) → i ≡ 4 * n + j → getD (laid n l held f) i 0 ≡ getD (pointers ++ (sizes ++ (counts ++ drop (7 * n) f))) j 0
-  unfolding laid
-  laid-on i j e = rw e (past-part low _ (4 * n) j low-length)
-
-  pub laid-pointer : (v : ℕ) → v < n → getD (laid n l held f) (4 * n + v) 0 ≡ pointerOf l v
-  laid-pointer v h = laid-on (4 * n + v) v refl ∙ List·getD-append pointers _ 0 v (omega (arith, table-length (pointerOf l) n)) ∙ table-at (pointerOf l) n v 0 h
-
-  pub laid-size : (v : ℕ) → v < n → getD (laid n l held f) (5 * n + v) 0 ≡ sizeAt n l v
-  laid-size v h =
-      laid-on (5 * n + v) (n + v) (omega arith) ∙ past-part pointers _ n v (table-length (pointerOf l) n)
-      ∙ List·getD-append sizes _ 0 v (omega (arith, table-length (sizeAt n l) n)) ∙ table-at (sizeAt n l) n v 0 h
-
-  pub laid-links : (v : ℕ) → v < n → getD (laid n l held f) (6 * n + v) 0 ≡ heldAt l held v
-  laid-links v h =
-      laid-on (6 * n + v) (n + (n + v)) (omega arith) ∙ past-part pointers _ n (n + v) (table-length (pointerOf l) n)
-      ∙ past-part sizes _ n v (table-length (sizeAt n l) n)
-      ∙ List·getD-append counts _ 0 v (omega (arith, table-length (heldAt l held) n)) ∙ table-at (heldAt l held) n v 0 h
-
-  pub laid-behind : (i : ℕ) → 7 * n ≤ i → getD (laid n l held f) i 0 ≡ getD f i 0
-  laid-behind i h =
-      let j = i - 7 * n in
-      let e : 7 * n + j ≡ i = omega arith in
-      laid-on i (n + (n + (n + j))) (omega arith) ∙ past-part pointers _ n (n + (n + j)) (table-length (pointerOf l) n)
-      ∙ past-part sizes _ n (n + j) (table-length (sizeAt n l) n)
-      ∙ past-part counts _ n j (table-length (heldAt l held) n)
-      ∙ getD-drop (7 * n) f j 0 ∙ ap (λ (k : ℕ). getD f k 0) e
-
-  -- A table with these words is the one.
-  pub laid-is : (g : List ℕ) → length g ≡ length f → ((i : ℕ) → i < stored * n → getD g i 0 ≡ getD f i 0) → ((i : ℕ) → 7 * n ≤ i → getD g i 0 ≡ getD f i 0)
-      → ((v : ℕ) → v < n → (getD g (4 * n + v) 0 ≡ pointerOf l v) × (getD g (5 * n + v) 0 ≡ sizeAt n l v) × (getD g (6 * n + v) 0 ≡ heldAt l held v))
-      → g ≡ laid n l held f
-  laid-is g same before behind words = ext-getD 0 g (laid n l held f) (same ∙ sym laid-length) (λ i h. at i (decLt i (4 * n)) (decLt i (5 * n)) (decLt i (6 * n)) (decLt i (7 * n)))
-    where
-      by : (j i v : ℕ) → i ≡ j + v → getD g (j + v) 0 ≡ getD (laid n l held f) (j + v) 0 → getD g i 0 ≡ getD (laid n l held f) i 0
-      by j i v e q = rw e q
-
-      at : (i : ℕ) → Dec (i < 4 * n) → Dec (i < 5 * n) → Dec (i < 6 * n) → Dec (i < 7 * n) → getD g i 0 ≡ getD (laid n l held f) i 0
-      at i (yes a) p q r = before i a ∙ sym (laid-before i a)
-      at i (no a) (yes b) q r =
-          let h : i - 4 * n < n = omega arith in
-          by (4 * n) i (i - 4 * n) (omega arith) (words (i - 4 * n) h .0 ∙ sym (laid-pointer (i - 4 * n) h))
-      at i (no a) (no b) (yes c) r =
-          let h : i - 5 * n < n = omega arith in
-          by (5 * n) i (i - 5 * n) (omega arith) (words (i - 5 * n) h .1 ∙ sym (laid-size (i - 5 * n) h))
-      at i (no a) (no b) (no c) (yes d) =
-          let h : i - 6 * n < n = omega arith in
-          by (6 * n) i (i - 6 * n) (omega arith) (words (i - 6 * n) h .2 ∙ sym (laid-links (i - 6 * n) h))
-      at i (no a) (no b) (no c) (no d) = behind i (omega arith) ∙ sym (laid-behind i (omega arith))
-
-  pub laid-kept : Kept n f (laid n l held f)
-  laid-kept = record { same-length = laid-length; before = laid-front; behind = rest }
-    where
-      rest : drop (7 * n) (laid n l held f) ≡ drop (7 * n) f
-      rest = ext-getD 0 (drop (7 * n) (laid n l held f)) (drop (7 * n) f) (simp length-drop (ap (λ (k : ℕ). k - 7 * n) laid-length)) (λ i h.
-          getD-drop (7 * n) (laid n l held f) i 0 ∙ laid-behind (7 * n + i) (omega arith) ∙ sym (getD-drop (7 * n) f i 0))
+only-kept : {n : ℕ} {f g : List ℕ} → Only (stored * n) (7 * n) f g → Kept n f g
+only-kept {n} {f} {g} o = record { same-length = o .long; before = take-by (stored * n) f g (o .long) (o .before); behind = drop-by (7 * n) f g (o .long) (o .behind) }
 
 -- What is laid over a table where only the three sections were written.
 pub pieces-over : (n : ℕ) (held : List Link) (f g : List ℕ) → Kept n f g → withPieces n held g ≡ withPieces n held f
-unfolding withPieces laid
+unfolding withPieces laid laidAt
 pieces-over n held f g k = rw (k .before, k .behind)
 
 -- The pieces that are laid stand gathered.
@@ -168,23 +89,25 @@ module _ {n count : ℕ} {f h : List ℕ} (G : Gatherable n f h count) where
   seven : 7 * n ≤ length f
   seven = omega (arith, G .long)
 
+  laid-all : Laid n stored (pointerOf (pieces n links)) (sizeAt n (pieces n links)) (heldAt (pieces n links) links) f (withPieces n links f)
+  unfolding withPieces
+  laid-all = pieces-words n (pieces n links) links f seven
+
   -- The pointer of a fragment, by whether it is the smallest member.
   pointing : (v : ℕ) → v < n → ((label v ≡ v) × (getD (withPieces n links f) (4 * n + v) 0 ≡ 0)) ⊎ ((label v < v) × (getD (withPieces n links f) (4 * n + v) 0 ≡ suc (label v)))
-  unfolding withPieces
   pointing v l =
-      let e = laid-pointer n (pieces n links) links f seven v l in
+      let e = laid-all .first v l in
       elim (ℕ-discrete (label v) v) [
         | yes q ↦ inl (q, e ∙ pointer-own n (pieces n links) links v q)
         | no d ↦ inr (omega (arith, label-le n links (G .inside) v l), e ∙ pointer-other n (pieces n links) links v d)
       ]
 
   pub laid-gathers : Gathers n f h count (withPieces n links f)
-  unfolding withPieces
   laid-gathers = record {
     gathered = record {
       pointing = record {
         few-fragments = G .few-fragments;
-        long = omega (arith, G .long, laid-length n (pieces n links) links f seven);
+        long = omega (arith, G .long, laid-all .only .long);
         down = λ v l. elim (pointing v l) [ inl (q, e) ↦ omega arith | inr (q, e) ↦ omega arith ];
       };
       few = omega (arith, links-length h count (G .there), G .few);
@@ -195,11 +118,11 @@ module _ {n count : ℕ} {f h : List ℕ} (G : Gatherable n f h count) where
         | inr (q, e) ↦ let w : u ≡ label v = omega arith in rw w (label-own n links (G .inside) v l)
       ];
       size = λ p l q.
-          let e = laid-size n (pieces n links) links f seven p l ∙ size-own n (pieces n links) links p q in
+          let e = laid-all .second p l ∙ size-own n (pieces n links) links p q in
           omega (arith, size-some n (pieces n links) links p q l);
-      links = λ p l q. laid-links n (pieces n links) links f seven p l ∙ held-own n (pieces n links) links p q;
+      links = λ p l q. laid-all .third p l ∙ held-own n (pieces n links) links p q;
     };
-    kept = laid-kept n (pieces n links) links f seven;
+    kept = only-kept (laid-all .only);
   }
 
 -- Where a pointer goes on to.
@@ -225,9 +148,15 @@ pub shortening-none : (n : ℕ) (f : List ℕ) → Shortening n f 0 f
 shortening-none n f = record { same-long = refl; before = λ i h. refl; behind = λ i h. refl; left = λ u a b. (refl, refl, refl); done = λ held G u a b. absurd (omega arith) }
 
 pub shortening-all : {n v : ℕ} {f₀ f : List ℕ} → 7 * n ≤ length f₀ → v ≡ n → Shortening n f₀ v f → Shortens n f₀ f
-unfolding withPieces
+unfolding withPieces laid
 shortening-all {n} {v} {f₀} {f} long e S held G =
-    laid-is n (pieces n held) held f₀ long f (S .same-long) (S .before) (S .behind) (λ u l. S .done held G u (omega arith) l)
+    let l = pieces n held in
+    laid-is n stored (pointerOf l) (sizeAt n l) (heldAt l held) f₀ long (record {
+      only = record { long = S .same-long; before = S .before; behind = S .behind };
+      first = λ u h. S .done held G u (omega arith) h .0;
+      second = λ u h. S .done held G u (omega arith) h .1;
+      third = λ u h. S .done held G u (omega arith) h .2;
+    })
 
 module _ {n v : ℕ} {f₀ f : List ℕ} (W : Shortable n f₀) (l : v < n) (S : Shortening n f₀ v f) where
   abbrev word : ℕ

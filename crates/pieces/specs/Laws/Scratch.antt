@@ -8,8 +8,8 @@ use native.Mathlib.Decide.{decLt}
 use lib.ListN.{length}
 use lib.Seq.{ext-getD}
 use Rattle.state.specs.Layout.{words, stored, wiped}
-use Rattle.state.specs.Laws.Clear.{wiped-length}
-use Rattle.differing.specs.Laws.Scratch.{wiped-before, wiped-within, wiped-behind, Blank, blank-at}
+use Rattle.state.specs.Laws.Clear.{wiped-length, wiped-before, wiped-within, wiped-behind}
+use Rattle.differing.specs.Laws.Scratch.{Blank, blank-at}
 use Rattle.pieces.specs.Pieces.{Kept}
 use Rattle.pieces.specs.Laws.Pieces.{front-at, rest-at}
 

@@ -24,12 +24,12 @@ use Rattle.rules.specs.Laws.Up.{par-in, up-in, up-lev}
 use Rattle.state.specs.Layout.{stored, bare, forestIn}
 use Rattle.state.specs.Laws.Layout.{tables-frag-same}
 use Rattle.testing.specs.Whole.{Whole}
+use Rattle.testing.specs.Only.{Only}
 use Rattle.testing.specs.Laws.Whole.{levels}
+use Rattle.testing.specs.Laws.Only.{only-refl, only-trans, only-more, only-forest, only-whole, take-by}
 use Rattle.reaches.specs.Spread.{flag, soleAt}
-use Rattle.reaches.specs.Order.{Only}
 use Rattle.reaches.specs.Passes.{Ready, Sinkable, leastBelow, Sinks, Falls, Low, Own}
 use Rattle.reaches.specs.Judged.{Lows, Pieces, Reached, Soles, cutsAt, cutWord, cutBy, cutOne, cutSo, Cuttable, Cuts}
-use Rattle.reaches.specs.Laws.Only.{only-refl, only-trans, only-more, only-forest, only-whole, take-by}
 use Rattle.reaches.specs.Laws.Passes.{ready-by, below-le, below-hit}
 
 -- The least goes by the values of the fragments.

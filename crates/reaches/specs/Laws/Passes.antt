@@ -16,10 +16,10 @@ use Rattle.rules.specs.Laws.Up.{up-zero, up-suc, up-rest, par-in, child-lev, ov
 use Rattle.rules.specs.Laws.Reading.{above-test}
 use Rattle.state.specs.Layout.{forestIn}
 use Rattle.testing.specs.Whole.{Whole}
+use Rattle.testing.specs.Only.{Only}
 use Rattle.testing.specs.Laws.Whole.{levels}
-use Rattle.reaches.specs.Order.{Only}
+use Rattle.testing.specs.Laws.Only.{only-refl, only-more, only-forest, only-whole}
 use Rattle.reaches.specs.Passes.{Ready, Sinkable, sunkAt, leastBelow, Sinks, fallenAt, Falls, Low, Own}
-use Rattle.reaches.specs.Laws.Only.{only-refl, only-more, only-forest, only-whole}
 
 -- The least of a fragment and all below it.
 module _ {n : ℕ} {f : List ℕ} (w : Whole n f) (value : ℕ → ℕ) where

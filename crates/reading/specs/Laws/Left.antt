@@ -24,6 +24,7 @@ use Rattle.state.specs.declared.State.{State}
 use Rattle.state.specs.declared.Stage.{Stage}
 use Rattle.state.specs.declared.Stage.the-variants.{Built, Reading}
 use Rattle.testing.specs.Test.{headButLinks}
+use Rattle.testing.specs.Laid.{laidAt}
 use Rattle.testing.specs.Laws.Head.{Passed, head-known}
 use Rattle.numbering.specs.Numbering.{numbered, numberedIn}
 use Rattle.numbering.specs.Laws.Numbered.{number-later, number-built, not-numbered}
@@ -125,7 +126,7 @@ module _ {s : State} {f h : List ℕ} (p : Passed s f h) where
       ∙ drop-at (replicate (3 * n) 0) _ (3 * n) (length-replicate (3 * n) 0)
 
   just-built : isBuilt (s .stage) ≡ true → numbered n (forestIn n f) f ≡ standing
-  unfolding numbered numbersOf tablesIn
+  unfolding numbered laidAt numbersOf tablesIn
   just-built x =
       let same : SameForest t (forestIn n f) = record { same-parent = refl; same-level = refl } in
       rw (unused x, behind-same same Reading n, behind-numbered n (forestIn n f) Reading tt, append-assoc, append-assoc, append-assoc)

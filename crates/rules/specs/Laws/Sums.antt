@@ -36,12 +36,12 @@ sum-none : (f : ℕ → ℕ) (m : ℕ) → ((c : ℕ) → f c ≡ 0) → sum f m
 sum-none f zero h = sum-zero f
 sum-none f (suc m) h = omega (arith, sum-suc f m, h m, sum-none f m h)
 
--- Where one is one more and no other changes, the sum is one more.
-sum-one-more : (f g : ℕ → ℕ) (m d : ℕ) → d < m → g d ≡ suc (f d) → ((c : ℕ) → c < m → c ≢ d → f c ≡ g c) → sum g m ≡ suc (sum f m)
-sum-one-more f g zero d l e h = absurd (omega arith)
-sum-one-more f g (suc m) d l e h = elim (ℕ-discrete m d) [
-  | yes q ↦ omega (arith, sum-suc f m, sum-suc g m, ap f q, ap g q, sum-same f g m (λ c k. h c (omega arith) (omega arith)))
-  | no q ↦ omega (arith, sum-suc f m, sum-suc g m, h m (omega arith) q, sum-one-more f g m d (omega arith) e (λ c k. h c (omega arith)))
+-- Where one is greater by x and no other changes, so is the sum.
+pub sum-more : (f g : ℕ → ℕ) (m d x : ℕ) → d < m → g d ≡ f d + x → ((c : ℕ) → c < m → c ≢ d → g c ≡ f c) → sum g m ≡ sum f m + x
+sum-more f g zero d x l e h = absurd (omega arith)
+sum-more f g (suc m) d x l e h = elim (ℕ-discrete m d) [
+  | yes q ↦ omega (arith, sum-suc f m, sum-suc g m, ap f q, ap g q, sum-same g f m (λ c k. h c (omega arith) (omega arith)))
+  | no q ↦ omega (arith, sum-suc f m, sum-suc g m, h m (omega arith) q, sum-more f g m d x (omega arith) e (λ c k. h c (omega arith)))
 ]
 
 -- Where nothing is at what fails a test, the sum stays from k on up to the next that passes, or to the end.
@@ -94,8 +94,8 @@ module _ (test : ℕ → Bool) (q : ℕ → ℕ → Bool) where
             omega (
               arith,
               count-yes p n t,
-              sum-one-more (part test q n) (part test q (suc n)) m d hd (part-in n d a b)
-                  (λ c l k. part-out n c (λ a′ b′. k (o n c d (omega arith) a′ b′ a b))),
+              sum-more (part test q n) (part test q (suc n)) m d 1 hd (omega (arith, part-in n d a b))
+                  (λ c l k. sym (part-out n c (λ a′ b′. k (o n c d (omega arith) a′ b′ a b)))),
             )
         | no t ↦ omega (arith, count-no p n t, sum-same (part test q n) (part test q (suc n)) m (λ c l. part-out n c (λ a b. t (g n c (omega arith) a b))))
       ]

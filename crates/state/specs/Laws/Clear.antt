@@ -8,7 +8,7 @@ use native.Mathlib.Decide.{decLe}
 use native.Mathlib.Numerals.{add-one}
 use lib.Dec.{T}
 use lib.ListN.{length, getD, set, take, drop, replicate, take-append-drop, length-append, length-take, length-drop, length-replicate, drop-of-length-le, List·getD-append, getD-replicate}
-use lib.Seq.{drop-cons, set-at, drop-drop, take-at, drop-at, getD-drop}
+use lib.Seq.{drop-cons, set-at, drop-drop, take-at, drop-at, getD-take, getD-drop}
 use Rattle.state.specs.Layout.{wiped}
 use Rattle.state.specs.Test.{allZero}
 use Rattle.state.specs.Laws.Lists.{zeros, zeros-between}
@@ -87,6 +87,14 @@ module _ (from to : ℕ) (l : List ℕ) (b : from ≤ to) (g : to ≤ length l) 
       let e : i ≡ from + (i - from) = omega arith in
       ap (λ j. getD (wiped from to l) j 0) e ∙ sym (getD-drop from (wiped from to l) (i - from) 0) ∙ ap (λ x. getD x (i - from) 0) wiped-rest
       ∙ List·getD-append (replicate (to - from) 0) (drop to l) 0 (i - from) (simp length-replicate (omega arith)) ∙ getD-replicate (to - from) (i - from) 0 0 (omega arith)
+
+  pub wiped-before : (i : ℕ) → i < from → getD (wiped from to l) i 0 ≡ getD l i 0
+  wiped-before i h = sym (getD-take from (wiped from to l) i 0 h) ∙ ap (λ (x : List ℕ). getD x i 0) wiped-front ∙ getD-take from l i 0 h
+
+  pub wiped-behind : (i : ℕ) → to ≤ i → getD (wiped from to l) i 0 ≡ getD l i 0
+  wiped-behind i h =
+      let e : i ≡ to + (i - to) = omega arith in
+      rw (e, ← getD-drop to (wiped from to l) (i - to) 0, ← getD-drop to l (i - to) 0, wiped-past)
 
 -- Words that were 0 are 0 again.
 pub wiped-back : (from to : ℕ) (f g : List ℕ) → from ≤ to → to ≤ length f → length g ≡ length f → T (allZero (drop from (take to f))) → take from g ≡ take from f → drop to g ≡ drop to f → wiped from to g ≡ f

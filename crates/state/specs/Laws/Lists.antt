@@ -6,7 +6,7 @@ use mathlib.Core.List.{List, [], _∷_, _++_, map, append-assoc}
 use native.Mathlib.Omega.{arith}
 use lib.Dec.{T, eqb, eqb→eq}
 use lib.ListN.{length, getD, take, drop, replicate, length-take, length-drop, length-replicate, getD-replicate, take-append-drop, replicate-append-replicate}
-use lib.Seq.{drop-drop, ext-getD}
+use lib.Seq.{drop-drop, ext-getD, getD-take, getD-drop}
 use Rattle.base.specs.Truth.{and-l, and-r}
 use Rattle.numbers.specs.Laws.Groups.{drop-take as taken-between}
 use Rattle.state.specs.Test.{allZero}
@@ -43,6 +43,13 @@ all-zeros (x ∷ l) m e t =
 
 pub all-none : (l : List ℕ) (n : ℕ) → length l ≡ n → ((v : ℕ) → v < n → getD l v 0 ≡ 0) → l ≡ replicate n 0
 all-none l n e h = ext-getD 0 l (replicate n 0) (e ∙ sym (length-replicate n 0)) (λ v b. h v (omega arith) ∙ sym (getD-replicate n v 0 0 (omega arith)))
+
+-- A word in a run of zeros.
+pub zero-at : (m k : ℕ) (l : List ℕ) → take k (drop m l) ≡ replicate k 0 → (i : ℕ) → m ≤ i → i < m + k → getD l i 0 ≡ 0
+zero-at m k l z i h g =
+    let e : i ≡ m + (i - m) = omega arith in
+    ap (λ (j : ℕ). getD l j 0) e ∙ sym (getD-drop m l (i - m) 0) ∙ sym (getD-take k (drop m l) (i - m) 0 (omega arith))
+    ∙ ap (λ (r : List ℕ). getD r (i - m) 0) z ∙ getD-replicate k (i - m) 0 0 (omega arith)
 
 -- A list whose words from m to b are 0.
 pub zeros-between : (m b : ℕ) (l : List ℕ) → m ≤ b → b ≤ length l → T (allZero (drop m (take b l))) → l ≡ take m l ++ (replicate (b - m) 0 ++ drop b l)
