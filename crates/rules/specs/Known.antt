@@ -11,11 +11,12 @@ use Rattle.base.specs.Pick.{pick}
 use Rattle.base.specs.Link.{Link}
 use Rattle.rules.specs.Links.{between, linked, tally}
 use Rattle.rules.specs.Forest.{up, depth}
-use Rattle.rules.specs.Search.{count, some, every, first, least, table, listed}
+use Rattle.rules.specs.Search.{count, sum, some, every, first, least, table, listed}
 use Rattle.rules.specs.Tables.{Tables, parentOf, rank, noteOf, markOf, placed, par, lev, fresh, place, putNote, putMark, putHeld, putCrossed, cleared}
 use Rattle.rules.specs.Building.{alone, merged, piecesFrom, pieces, member, sizeOf, heldIn, better, noteLink, hold, fill, holdLink, buildLink, buildLinks, noted, topOf, hang, nextOf, reachNext, goBack, walkStep, walkSteps, walked, placePath, lost, placeWalk, placePiece, placeFrom, placePieces, closeBuilding, done, pass, passes}
 use Rattle.rules.specs.Adopting.{rootedIn, adoptable, adopted}
 use Rattle.rules.specs.Reading.{above, hear, readLink, readLinks, seen, accepted, lowest, reach, childOf, soleBelow, sole, cut, rootOf, piece}
+use Rattle.rules.specs.Numbers.{below, belowIf, beside, passed, turnAt, turn, end, atTurn}
 
 -- Build with room k from a list told in every pass, and read it; build from the lists of the passes, one by one, and read another; or adopt
 -- parents and read a list.
@@ -103,3 +104,11 @@ instances =
 pub known : map (λ r. resultOf (r .instance)) instances ≡ map (λ r. r .result) instances
 unfolding pick between linked tally up depth count some every first least table listed parentOf rank noteOf markOf placed par lev fresh place putNote putMark putHeld putCrossed cleared alone merged piecesFrom pieces member sizeOf heldIn better noteLink hold fill holdLink buildLink buildLinks noted topOf hang nextOf reachNext goBack walkStep walkSteps walked placePath lost placeWalk placePiece placeFrom placePieces closeBuilding done pass passes rootedIn adoptable adopted above hear readLink readLinks seen accepted lowest reach childOf soleBelow sole cut rootOf piece solesTo reported run resultOf row square triangle instances
 known = refl
+
+-- The numbers of a forest with the roots 1 and 3: 1 before 6; 3 before 0, which is before 2 and 5, and before 4.
+unfoldable pub grove : Tables
+grove = adopted 7 (3 ∷ 1 ∷ 0 ∷ 3 ∷ 3 ∷ 0 ∷ 1 ∷ [])
+
+pub known-numbers : (table (turn 7 grove) 7 ≡ 3 ∷ 0 ∷ 4 ∷ 2 ∷ 6 ∷ 5 ∷ 1 ∷ []) × (table (end 7 grove) 7 ≡ 6 ∷ 2 ∷ 5 ∷ 7 ∷ 7 ∷ 6 ∷ 2 ∷ []) × (table (atTurn 7 grove) 7 ≡ 1 ∷ 6 ∷ 3 ∷ 0 ∷ 2 ∷ 5 ∷ 4 ∷ [])
+unfolding pick up depth count first sum table parentOf rank placed par lev adopted above childOf below belowIf beside passed turnAt turn end atTurn grove
+known-numbers = (refl, refl, refl)

@@ -16,7 +16,8 @@ use Rattle.rules.specs.Search.{count, least}
 use Rattle.rules.specs.Tables.{Tables, markOf, placed, par, lev, fresh, cleared}
 use Rattle.rules.specs.Building.{pieces, member, walked, buildLinks, done, pass, passes, ceiling, lowerCeiling}
 use Rattle.rules.specs.Adopting.{parentIn, adoptable, adopted}
-use Rattle.rules.specs.Reading.{readLinks, accepted, lowest, sole, cut, piece}
+use Rattle.rules.specs.Reading.{above, readLinks, accepted, lowest, sole, cut, piece}
+use Rattle.rules.specs.Numbers.{beside, turn, end, atTurn}
 use Rattle.rules.specs.Facts.{Standing, Unnoted, Rested, Loose, Holding, Underway, Ready, Walked, Partial, NotesOf, SameReports}
 use Rattle.rules.specs.Method.{Method, after, Owes, firstMethod}
 use Rattle.rules.specs.Laws.Walk.{walk}
@@ -31,6 +32,7 @@ use Rattle.rules.specs.Laws.Method.{forest-accepted, forests-agree, meth
 use Rattle.rules.specs.Laws.Up.{level-arrives, level-fewest}
 use Rattle.rules.specs.Laws.Tables.{standing-levels}
 use Rattle.rules.specs.Laws.Adopting.{level-depth, adopted-exact}
+use Rattle.rules.specs.Laws.Numbers.{above-range, turn-in, at-turn, turn-at, beside-turn}
 
 -- 1. Every pass keeps the invariant: what stands is part of a depth-first forest of the set, and each unplaced part hangs on one way to the root
 -- (record Partial). It is kept by a pass that tells the set in any order and with any repeats,
@@ -174,3 +176,15 @@ first-method = first-owes
 pub first-method-passes : (n k : ℕ) (gs : List (List Link)) → after (firstMethod n k) gs ≡ passes n k (fresh n) gs
 unfolding firstMethod
 first-method-passes n k gs = tell-passes n k (fresh n) gs
+
+-- The numbers of a forest that stands are those of a depth-first order: a is above b exactly where b's turn is in a's range, each turn is one
+-- fragment's, and of two children of one fragment, or two roots, the smaller with all below it comes first. (Known.known-numbers.)
+module _ (n : ℕ) (t : Tables) (S : Standing n t) where
+  pub above-by-turns : (a b : ℕ) → a < n → b < n → T (above t a b) ↔ ((turn n t a ≤ turn n t b) × (turn n t b < end n t a))
+  above-by-turns = above-range n t (standing-levels S)
+
+  pub turns-once : ((v : ℕ) → v < n → (turn n t v < n) × (atTurn n t (turn n t v) ≡ v)) × ((i : ℕ) → i < n → (atTurn n t i < n) × (turn n t (atTurn n t i) ≡ i))
+  turns-once = (λ v h. (turn-in n t (standing-levels S) v h, at-turn n t (standing-levels S) v h), turn-at n t (standing-levels S))
+
+  pub turns-rise : (c d : ℕ) → c < n → d < n → T (beside t d c) → c < d → end n t c ≤ turn n t d
+  turns-rise = beside-turn n t (standing-levels S)
