@@ -1,13 +1,12 @@
 -- What lies behind the sections of every stage: the numbers of the forest where it is numbered, and scratch.
 -- Assumes nothing.
 use Prim.Native.Nat.{ℕ, suc, _+_, _-_, _*_, _≤_, _<_}
-use mathlib.Core.Path.{_≡_, refl, sym, ap, _∙_, subst}
-use mathlib.Core.Bool.{Bool}
+use mathlib.Core.Path.{_≡_, sym, ap, _∙_}
 use mathlib.Core.List.{List, _++_, append-assoc}
 use native.Mathlib.Omega.{arith}
 use lib.Dec.{T, eqb, eqb→eq}
 use lib.ListN.{length, getD, take, drop, replicate, length-take, length-drop, length-append, length-replicate}
-use lib.Seq.{drop-drop, drop-at, take-at, take-take, ext-getD}
+use lib.Seq.{drop-drop, drop-at, take-at, ext-getD}
 use Rattle.base.specs.Pick.{pick-true, pick-false}
 use Rattle.base.specs.Truth.{T-dec, T-true, T-false, and-l, and-r, and-intro, eq→eqb}
 use Rattle.rules.specs.Search.{table, every}
@@ -18,7 +17,7 @@ use Rattle.rules.specs.Laws.Tables.{SameForest}
 use Rattle.rules.specs.Laws.SameNumbers.{same-turn, same-end, same-atTurn}
 use Rattle.state.specs.Layout.{words, stored, numbers, storedIn, section, turnIn, endIn, whoseIn, numbersOf, behind}
 use Rattle.state.specs.Test.{isNumbered, asked, allZero, numberedAt, numbersFit}
-use Rattle.state.specs.Laws.Lists.{parts, drop-take, all-zeros, zeros-pass}
+use Rattle.state.specs.Laws.Lists.{parts, all-zeros, zeros-pass}
 use Rattle.state.specs.Laws.Layout.{section-length}
 use Rattle.state.specs.Laws.Held.{asked-use, asked-make}
 use Rattle.state.specs.declared.State.{State}

@@ -1,18 +1,17 @@
 -- A table is laid out when its stored parts are what they say, its scratch is 0 and the words past its end are those found.
 -- Assumes nothing.
-use Prim.Native.Nat.{ℕ, suc, _+_, _-_, _*_, _≤_, _<_}
+use Prim.Native.Nat.{ℕ, _+_, _-_, _*_, _≤_, _<_}
 use mathlib.Core.Path.{_≡_, sym, ap, _∙_}
 use mathlib.Core.List.{List, _++_, map, append-assoc}
 use native.Mathlib.Omega.{arith}
 use lib.Dec.{T}
 use lib.ListN.{length, take, drop, replicate, length-take, length-drop, length-append, length-replicate}
 use lib.Seq.{drop-drop, drop-at, take-at}
-use Rattle.base.specs.Truth.{and-intro}
 use Rattle.rules.specs.Links.{linked}
 use Rattle.rules.specs.Tables.{Tables}
 use Rattle.state.specs.Layout.{words, stored, radix, section, linkIn, wordOf, tablesIn, behind, fragOf, heldOf}
 use Rattle.state.specs.Test.{isNumbered, allZero}
-use Rattle.state.specs.Laws.Lists.{length-map, parts, all-zeros, zeros-between, zeros-pass}
+use Rattle.state.specs.Laws.Lists.{length-map, parts, zeros-between, zeros-pass}
 use Rattle.state.specs.Laws.Words.{words-links, links-words}
 use Rattle.state.specs.Laws.Layout.{tables-are}
 use Rattle.state.specs.Laws.Behind.{section-first, section-next, drop-next, rest, behind-plain, behind-length}

@@ -24,6 +24,7 @@ use Rattle.rules.specs.Laws.Tables.{par-placed, levels-stand}
 use Rattle.state.specs.Layout.{words, stored, numbers, storedIn, tablesIn, forestIn, heldLinks}
 use Rattle.state.specs.Test.{entriesMost, isBuilding, isBuilt, isReading, isRead, isNumbered, asked, allZero, stageFits, standsAt, forestFits, endsFit, noneTwice, quotaFits, heldFits, noteFits, clearAt, lowFits, notesFit, restZero, countsFit, readFits, markFits, restAgrees, numbersFit, fits, sound}
 use Rattle.state.specs.Laws.Lists.{drop-take}
+use Rattle.state.specs.Laws.Tests.{and-true-right}
 use Rattle.state.specs.Laws.Held.{asked-use, asked-make}
 use Rattle.state.specs.Laws.Agrees.{orphans}
 use Rattle.state.specs.Laws.Known.{stands-at}
@@ -512,16 +513,12 @@ module _ (s : State) (f h : List ℕ) (at : (v : ℕ) → v < s .n → At (s .st
   unfolding restZero restFits
   rest-is = elim (T-dec (isNumbered (s .stage))) [
     | yes r ↦ rw (drop-part (s .held) (s .k * s .n) h, free-numbered r, numbers-are r, T-true (isNumbered (s .stage)) r, pick-true) (apart unused (allZero (take (words * s .n - (stored + numbers) * s .n) (drop ((stored + numbers) * s .n) f))) (every (wordsFit (s .n) (forestIn (s .n) f) f) (s .n)))
-    | no r ↦ rw (drop-part (s .held) (s .k * s .n) h, free-plain r, T-true (numbersFit s t f) (numbers-none r), T-false (isNumbered (s .stage)) r, pick-false) (alone (unused && allZero (take (words * s .n - stored * s .n) (drop (stored * s .n) f))))
+    | no r ↦ rw (drop-part (s .held) (s .k * s .n) h, free-plain r, T-true (numbersFit s t f) (numbers-none r), T-false (isNumbered (s .stage)) r, pick-false) (and-true-right (unused && allZero (take (words * s .n - stored * s .n) (drop (stored * s .n) f))))
   ]
     where
       apart : (a b c : Bool) → (a && b) && c ≡ a && (b && c)
       apart true b c = refl
       apart false b c = refl
-
-      alone : (a : Bool) → a && true ≡ a
-      alone true = refl
-      alone false = refl
 
 -- The answers of the test on the way, where m fragments are placed.
 module _ (s : State) (f h : List ℕ) (m : ℕ) (em : m ≡ count (placed (forestIn (s .n) f)) (s .n)) where
