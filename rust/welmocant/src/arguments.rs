@@ -55,7 +55,7 @@ const REPORT: &str = "Prints the report on a list: how many fragments, links and
 
 Look at each link of a `sole` line by hand: nothing else in the list says that its two sides belong together. Then look at each fragment with `cut yes`. Fragments of one piece are joined with one another; a piece is named by its smallest fragment.
 
-The list is read again and again, in little memory, so the time grows with the passes: a greater --room takes more memory and fewer passes. A million links over the most fragments, 32,768, take up to a minute. How far it is stands on standard error where that is a terminal.";
+The list is read again and again, in little memory, so the time grows with the passes: a greater --room takes more memory and fewer passes. A million links over the most fragments, 32,768, take under a second in a few passes. How far it is stands on standard error where that is a terminal.";
 
 const PICTURE: &str = "Draw the pieces that have sole links, as SVG, by Graphviz
 
