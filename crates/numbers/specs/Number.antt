@@ -59,6 +59,10 @@ groupsOf (suc groups) v = pick (ltb v 128) (v ∷ []) ((v % 128 + 128) ∷ group
 unfoldable pub writtenNumber : ℕ → List ℕ
 writtenNumber v = groupsOf groupsMost v
 
+-- How many bytes a number takes, and 0 for one that has no form.
+unfoldable pub widthOf : ℕ → ℕ
+widthOf v = pick (ltb valueMost v) 0 (length (writtenNumber v))
+
 -- What the number writer leaves: its answer, which is the position after the number, and the caller's buffer.
 pub record Wrote : Type 0 where
   pub answer : Answer ℕ

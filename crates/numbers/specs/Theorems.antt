@@ -7,13 +7,16 @@ use native.Mathlib.Decide.{decLt}
 use mathlib.Core.Path.{_≡_, refl, sym, ap, _∙_, subst}
 use mathlib.Core.List.{List, _++_}
 use mathlib.Core.Logic.{_⊎_}
+use lib.Dec.{eqb, ltb}
 use lib.ListN.{length, take, drop, length-drop, take-append-drop}
 use lib.Seq.{take-take, take-length, take-append-seam, drop-append-add, drop-drop, getD-drop}
+use Rattle.base.specs.Pick.{pick, tests}
 use Rattle.base.specs.Answer.{gives, refuses}
-use Rattle.numbers.specs.Number.{Numeral, groupsMost, valueMost, atMost, readUpTo, readNumber, groupsOf, writtenNumber, writeNumber}
+use Rattle.numbers.specs.Number.{Numeral, groupsMost, valueMost, atMost, readUpTo, readNumber, groupsOf, writtenNumber, widthOf, writeUpTo, writeNumber}
 use Rattle.numbers.specs.Words.{Bytes, seenGroups, seen, Whole, moved}
 use Rattle.numbers.specs.Laws.Reading.{read-end}
 use Rattle.numbers.specs.Laws.Groups.{drop-take, groups-only, seen-few, seen-within, whole-most, moved-most, moved-groups}
+use Rattle.numbers.specs.Laws.Writing.{groups-some}
 use Rattle.numbers.specs.Laws.Most.{number-stands, number-stops, up-to-written, up-to-back}
 
 -- A number that is read.
@@ -105,3 +108,21 @@ pub written-read : (v : ℕ) (buffer : List ℕ) (at end : ℕ) → writeNumber 
     → readNumber (writeNumber v buffer at .buffer) at ≡ gives (record { value = v; next = end })
 unfolding readNumber writeNumber
 written-read v buffer at end e = up-to-back (groupsMost - 1) valueMost (omega arith) v buffer at end e
+
+-- What the writer answers, by the number's width.
+pub written-wide : (v : ℕ) (buffer : List ℕ) (at : ℕ) → writeNumber v buffer at .answer ≡
+    pick (eqb (widthOf v) 0) (refuses 7 0)
+    (pick (ltb (length buffer) (at + widthOf v)) (refuses 3 0)
+    (gives (at + widthOf v)))
+unfolding writeNumber writeUpTo widthOf writtenNumber
+written-wide v buffer at = elim (decLt valueMost v) [
+  | yes h ↦ simp tests
+  | no h ↦
+      let k : v ≤ valueMost = omega arith in
+      let s = groups-some (groupsMost - 1) v in
+      let z : length (groupsOf groupsMost v) ≡ 0 → ⊥ = λ e. omega arith in
+      elim (decLt (length buffer) (at + length (groupsOf groupsMost v))) [
+        | yes l ↦ simp tests
+        | no l ↦ let m : at + length (groupsOf groupsMost v) ≤ length buffer = omega arith in simp tests
+      ]
+]

@@ -1,14 +1,13 @@
 // Numbers in groups of seven bits, one byte each, lowest group first. Programs above know them by these promises only.
 ghost use mathlib.Core.Path.{_≡_};
-ghost use lib.ListN.{getD};
+ghost use Prim.Native.Nat.{_+_, _≤_};
+ghost use lib.ListN.{getD, length};
 ghost use Rattle.base.specs.Answer.{refuses};
-ghost use Rattle.numbers.specs.Number.{readNumber, writeNumber};
+ghost use Rattle.numbers.specs.Number.{readNumber, put, widthOf, writeNumber};
 ghost use Rattle.numbers.specs.Answers.{told, toldEnd, wrote};
-ghost use Rattle.numbers.specs.Writing.{Filled};
+ghost use Rattle.numbers.specs.Writing.{allGroups};
 
-// The greatest number of groups, and the greatest value.
-const GROUPS: usize = 3;
-
+// The greatest value.
 const VALUE_MOST: u32 = 2097151;
 
 // A refusal: document 01's number of it, and its place.
@@ -96,38 +95,53 @@ pub fn read_number(bytes: &[u8], at: usize) -> Read
     Read::Number(value as u32, next)
 }
 
-// Puts the groups of `value` into `small` from index `done` on, as far as it has room. Returns the index behind the last.
-fn groups_of(value: u32, small: &mut [u8], done: usize) -> usize
-    ensures { λ r. ⌜ Filled value (now (small .entry)) done r (now (small .exit)) ⌝ }
+// How many groups `value` has: by the rule that `put_groups` writes them by.
+fn groups_in(value: u32) -> usize
+    ensures { λ r. ⌜ r ≡ length (allGroups value) ⌝ }
 {
-    if done >= small.len() {
-        return done;
-    }
     if value < 128 {
-        small[done] = value as u8;
-        return done + 1;
+        return 1;
     }
-    small[done] = (value % 128 + 128) as u8;
-    groups_of(value / 128, small, done + 1)
+    1 + groups_in(value / 128)
+}
+
+// How many bytes a number takes, and 0 for one that has no form.
+pub fn width(value: u32) -> usize
+    ensures { λ r. ⌜ r ≡ widthOf value ⌝ }
+{
+    if value > VALUE_MOST {
+        return 0;
+    }
+    groups_in(value)
+}
+
+// Puts the groups of `value` into `buffer` from position `at` on.
+fn put_groups(value: u32, buffer: &mut [u8], at: usize)
+    requires { ⌜ at + length (allGroups value) ≤ length (now buffer) ⌝ }
+    ensures { λ _. ⌜ now (buffer .exit) ≡ put (now (buffer .entry)) at (allGroups value) ⌝ }
+{
+    if value < 128 {
+        buffer[at] = value as u8;
+        return;
+    }
+    buffer[at] = (value % 128 + 128) as u8;
+    put_groups(value / 128, buffer, at + 1);
 }
 
 // Writes `value` into `buffer` from position `at` on.
 pub fn write_number(value: u32, buffer: &mut [u8], at: usize) -> Written
     ensures { λ r. ⌜ wrote r (now (buffer .exit)) ≡ writeNumber value (now (buffer .entry)) at ⌝ }
 {
-    if value > VALUE_MOST {
+    let size = width(value);
+    if size == 0 {
         return not_written(7);
     }
-    let mut small = [0u8; GROUPS];
-    let count = groups_of(value, &mut small, 0);
     if at > buffer.len() {
         return not_written(3);
     }
-    if buffer.len() - at < count {
+    if buffer.len() - at < size {
         return not_written(3);
     }
-    for i in 0..count {
-        buffer[at + i] = small[i];
-    }
-    Written::End(at + count)
+    put_groups(value, buffer, at);
+    Written::End(at + size)
 }

@@ -3,9 +3,7 @@
 use mathlib.Core.List.{List, [], _∷_, _++_}
 use mathlib.Core.Path.{_≡_}
 use Prim.Native.Nat.{ℕ, _+_, _≤_}
-use lib.Dec.{ltb}
 use lib.ListN.{length, getD}
-use Rattle.base.specs.Pick.{pick}
 use Rattle.base.specs.Answer.{Answer, gives, refuses}
 use Rattle.numbers.specs.Number.{valueMost, writtenNumber, put}
 use Rattle.lists.specs.List.{andThen, sized}
@@ -15,10 +13,6 @@ use Rattle.writing.specs.Write.{wordLinks, writtenList}
 abbrev pub answerOr : Answer ℕ → ℕ → ℕ
 answerOr (gives a) other = a
 answerOr (refuses number place) other = other
-
--- The number of bytes that a number takes, and 0 for one that has no form.
-unfoldable pub widthOf : ℕ → ℕ
-widthOf v = pick (ltb valueMost v) 0 (length (writtenNumber v))
 
 -- How many bytes the list takes, refused as the list writer refuses its words.
 unfoldable pub listSize : ℕ → List ℕ → Answer ℕ

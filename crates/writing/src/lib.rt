@@ -5,11 +5,12 @@ ghost use lib.ListN.{length};
 ghost use Rattle.numbers.specs.Number.{writtenNumber, put};
 ghost use Rattle.numbers.specs.Answers.{toldEnd, wrote};
 ghost use Rattle.writing.specs.Write.{writeList};
-ghost use Rattle.writing.specs.Steps.{answerOr, widthOf, listSize, Fitting, writtenWords, Stored, Room};
+ghost use Rattle.writing.specs.Steps.{answerOr, listSize, Fitting, writtenWords, Stored, Room};
 use lists::bad_ends;
 use lists::bad_size;
 use numbers::Written;
 use numbers::not_written;
+use numbers::width;
 
 // Where the writer ended, or `other` where it refused.
 fn end_or(written: Written, other: usize) -> usize
@@ -19,15 +20,6 @@ fn end_or(written: Written, other: usize) -> usize
         Written::End(end) => end,
         Written::Refused(_) => other,
     }
-}
-
-// How many bytes a number takes, and 0 for one that has no form.
-fn width(value: u32) -> usize
-    ensures { λ r. ⌜ r ≡ widthOf value ⌝ }
-{
-    let mut small = [0u8; 8];
-    let written = numbers::write_number(value, &mut small, 0);
-    end_or(written, 0)
 }
 
 // How many bytes the list takes, or what is wrong with it.

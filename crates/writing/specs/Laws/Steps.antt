@@ -10,23 +10,18 @@ use native.Mathlib.Decide.{decLe}
 use Prim.Native.Nat.{ℕ, zero, suc, _+_, _*_, _≤_, _<_}
 use lib.ListN.{length, take, drop, getD, length-append, drop-of-length-le}
 use lib.Seq.{take-at, drop-at, drop-drop, drop-cons, length-take-le}
-use Rattle.base.specs.Pick.{pick-true, pick-false, pick-all, tests}
+use Rattle.base.specs.Pick.{pick-true, pick-false, tests}
 use Rattle.base.specs.Answer.{Answer, gives, refuses}
 use Rattle.base.specs.Link.{Link}
-use Rattle.numbers.specs.Number.{groupsMost, valueMost, writtenNumber, put, Wrote, writeUpTo, writeNumber}
-use Rattle.numbers.specs.Laws.Writing.{groups-few, put-none, length-put}
+use Rattle.numbers.specs.Number.{groupsMost, valueMost, writtenNumber, put, widthOf, Wrote, writeUpTo, writeNumber}
+use Rattle.numbers.specs.Laws.Writing.{put-none, length-put, written-few, width-few, width-is}
 use Rattle.lists.specs.List.{fragmentsMost, andThen, before, noSize, sized, badEnds, writtenLinks}
 use Rattle.lists.specs.Words.{Sound}
 use Rattle.lists.specs.Laws.Link.{never-both, andThen-gives, size-good, sized-gives, joins-gives}
 use Rattle.lists.specs.Laws.Scan.{bad-first, bad-second, joins-bad, joins-good}
 use Rattle.writing.specs.Write.{wordLinks, writtenList, storeList, writeList}
 use Rattle.writing.specs.Words.{wordsOf}
-use Rattle.writing.specs.Steps.{answerOr, widthOf, listSize, writtenWords, Fitting, Stored, Room}
-
--- A number's bytes are few.
-pub written-few : (v : ℕ) → length (writtenNumber v) ≤ groupsMost
-unfolding writtenNumber
-written-few v = groups-few groupsMost v
+use Rattle.writing.specs.Steps.{answerOr, listSize, writtenWords, Fitting, Stored, Room}
 
 -- The number writer where it is not refused.
 pub write-fitting : (v : ℕ) (buffer : List ℕ) (at : ℕ) → v ≤ valueMost → at + length (writtenNumber v) ≤ length buffer
@@ -34,27 +29,8 @@ pub write-fitting : (v : ℕ) (buffer : List ℕ) (at : ℕ) → v ≤ valueMost
 unfolding writeNumber writeUpTo writtenNumber
 write-fitting v buffer at h k = simp tests
 
-width-few : (v : ℕ) → widthOf v ≤ groupsMost
-unfolding widthOf
-width-few v = pick-all (λ (k : ℕ). k ≤ groupsMost) _ _ _ (omega arith) (written-few v)
-
 pub width-bound : (r v : ℕ) → r ≡ widthOf v → r ≤ groupsMost
 width-bound r v z = omega (arith, width-few v)
-
-width-is : (v : ℕ) → v ≤ valueMost → widthOf v ≡ length (writtenNumber v)
-unfolding widthOf
-width-is v h = simp tests
-
-width-far : (v : ℕ) (buffer : List ℕ) → valueMost < v → answerOr (writeNumber v buffer 0 .answer) 0 ≡ widthOf v
-unfolding writeNumber writeUpTo widthOf
-width-far v buffer h = simp tests
-
--- A number written into eight bytes shows its width.
-pub width-told : (v : ℕ) (buffer : List ℕ) → length buffer ≡ 8 → answerOr (writeNumber v buffer 0 .answer) 0 ≡ widthOf v
-width-told v buffer h = elim (decLe v valueMost) [
-  | yes k ↦ rw (write-fitting v buffer 0 k (omega (arith, written-few v)), width-is v k) (omega arith)
-  | no k ↦ width-far v buffer (omega arith)
-]
 
 -- Ends that nothing is wrong with.
 good-ends : (n a b : ℕ) → badEnds n a b ≡ 0 → (a < n) × (b < n)
