@@ -182,6 +182,25 @@ fn past_writes() {
     write_case(2097152, 0, 0, not_written(7), b"");
 }
 
+fn width_case(value: u32, expected: u64) {
+    labelled(b"width ", value as u64);
+    labelled(b": expected ", expected);
+    labelled(b", got ", numbers::width(value) as u64);
+    text(b"\n");
+}
+
+// The first and the last value of each length, and values that have no form.
+fn widths() {
+    width_case(0, 1);
+    width_case(127, 1);
+    width_case(128, 2);
+    width_case(16383, 2);
+    width_case(16384, 3);
+    width_case(2097151, 3);
+    width_case(2097152, 0);
+    width_case(4294967295, 0);
+}
+
 fn main() {
     known_reads();
     known_refusals();
@@ -193,4 +212,5 @@ fn main() {
     more_writes();
     placed_writes();
     past_writes();
+    widths();
 }

@@ -139,11 +139,15 @@ fn value(seed: u64, kind: u64) -> u32 {
     }
 }
 
-// Such a value, into up to five bytes of aa.
+// Such a value, whose width is told, into up to five bytes of aa.
 fn writing(seed: u64) -> u64 {
     let mut bytes = [170u8; 5];
+    let given = value(next(seed), seed % 3);
+    if numbers::width(given) != size(given) {
+        return DIFFER;
+    }
     write_part(
-        value(next(seed), seed % 3),
+        given,
         &mut bytes,
         (seed / 8 % 6) as usize,
         (seed / 64 % 4) as usize,
@@ -168,14 +172,16 @@ fn write_part(value: u32, s: &mut [u8], len: usize, at: usize) -> u64 {
     }
 }
 
-// How many bytes a value takes.
+// How many bytes a value takes, and 0 where it is too great.
 fn size(value: u32) -> usize {
     if value < 128 {
         1
     } else if value < 16384 {
         2
-    } else {
+    } else if value < 2097152 {
         3
+    } else {
+        0
     }
 }
 
