@@ -62,8 +62,7 @@ fn written(s: State, frag: &mut [u32], out: &mut [u8]) -> Written
     ensures { λ r. ⌜ (wrote r (now (out .exit)) ≡ store (now (out .entry)) (reportLines (s .n) (s .entries) (s .passes) (forestIn (s .n) (now (frag .entry))))) × Only (10 * s .n) (12 * s .n) (now (frag .entry)) (now (frag .exit)) ⌝ }
 {
     thread(frag, s.n);
-    let mut none = [0u8; 1];
-    let size = all_lines(s, frag, &mut none);
+    let size = all_lines(s, frag, &mut out[..0]);
     if out.len() < size {
         return not_written(3);
     }

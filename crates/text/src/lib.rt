@@ -14,8 +14,7 @@ mod lines;
 pub fn refusal_line(number: u32, place: usize, out: &mut [u8]) -> Written
     ensures { λ r. ⌜ wrote r (now (out .exit)) ≡ store (now (out .entry)) (refusalLine number place) ⌝ }
 {
-    let mut none = [0u8; 1];
-    let size = lines::refusal_text(&mut none, number as u64, place as u64);
+    let size = lines::refusal_text(&mut out[..0], number as u64, place as u64);
     if out.len() < size {
         return not_written(3);
     }
@@ -27,8 +26,7 @@ pub fn refusal_line(number: u32, place: usize, out: &mut [u8]) -> Written
 pub fn no_file_line(out: &mut [u8]) -> Written
     ensures { λ r. ⌜ wrote r (now (out .exit)) ≡ store (now (out .entry)) noFileLine ⌝ }
 {
-    let mut none = [0u8; 1];
-    let size = lines::no_file_text(&mut none);
+    let size = lines::no_file_text(&mut out[..0]);
     if out.len() < size {
         return not_written(3);
     }

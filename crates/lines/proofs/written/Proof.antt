@@ -12,13 +12,13 @@ all-lines-requires : tie.Need-all-lines-requires
 all-lines-requires c κs = threads-done (c .before .before .before .before .before .before .before .before .pre) (c .before .before .before .before .thread .ensures)
 
 returns : tie.Need-returns
-returns c = let t = c .before .before .before .before .before .before .before .before .thread .ensures in (store-short (put-is (lines-kept _ _ _ t) (c .before .before .before .all-lines .ensures)) _ _ (c .not-written .ensures) (omega arith), t .only)
+returns c = let t = c .before .before .before .before .before .before .before .before .before .thread .ensures in (store-short (put-is (lines-kept _ _ _ t) (c .before .before .before .before .all-lines .ensures)) _ _ (c .not-written .ensures) (omega arith), t .only)
 
 all-lines-requires-2 : tie.Need-all-lines-requires-2
-all-lines-requires-2 c κs = threads-done (c .before .before .before .before .before .before .before .before .before .before .before .before .before .pre) (c .before .before .before .before .before .before .before .before .before .thread .ensures)
+all-lines-requires-2 c κs = threads-done (c .before .before .before .before .before .before .before .before .before .before .before .before .before .before .pre) (c .before .before .before .before .before .before .before .before .before .before .thread .ensures)
 
 returns-2 : tie.Need-returns-2
-returns-2 c = let t = c .before .before .before .before .before .before .before .before .before .before .before .before .thread .ensures in (store-done (put-is (lines-kept _ _ _ t) (c .before .before .before .before .before .before .before .all-lines .ensures)) _ _ _ (omega arith) (put-is (lines-kept _ _ _ t) (c .before .before .all-lines2 .ensures)), t .only)
+returns-2 c = let t = c .before .before .before .before .before .before .before .before .before .before .before .before .before .thread .ensures in (store-done (put-is (lines-kept _ _ _ t) (c .before .before .before .before .before .before .before .before .all-lines .ensures)) _ _ _ (omega arith) (put-is (lines-kept _ _ _ t) (c .before .before .all-lines2 .ensures)), t .only)
 
 pub written-spec : {M : Type 1} → statement M
 written-spec =
@@ -26,8 +26,10 @@ written-spec =
     (tie.spec
     (λ c κs. search needs)
     (λ c. search needs)
+    (λ c. search needs)
     all-lines-requires
     (λ c κs. search needs)
+    (λ c. search needs)
     (λ c. search needs)
     returns
     all-lines-requires-2

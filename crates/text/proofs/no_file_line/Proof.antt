@@ -7,18 +7,20 @@ use Rattle.text.proofs.no_file_line.Statement.{statement}
 use Rattle.text.proofs.no_file_line.Tie as tie
 
 returns : tie.Need-returns
-returns c = store-short (c .before .before .before .no-file-text .ensures) _ _ (c .not-written .ensures) (omega arith)
+returns c = store-short (c .before .before .before .before .no-file-text .ensures) _ _ (c .not-written .ensures) (omega arith)
 
 returns-2 : tie.Need-returns-2
-returns-2 c = store-done (c .before .before .before .before .before .before .no-file-text .ensures) _ _ _ (omega arith) (c .before .before .no-file-text2 .ensures)
+returns-2 c = store-done (c .before .before .before .before .before .before .before .no-file-text .ensures) _ _ _ (omega arith) (c .before .before .no-file-text2 .ensures)
 
 pub no-file-line-spec : {M : Type 1} → statement M
 no-file-line-spec =
     tie.close
     (tie.spec
     (λ c. search needs)
+    (λ c. search needs)
     (λ c κs. search needs)
     (λ c κs. search needs)
+    (λ c. search needs)
     returns
     (λ c κs. search needs)
     (λ c. search needs)

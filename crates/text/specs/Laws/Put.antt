@@ -120,18 +120,27 @@ pub within-none : (xs : List ℕ) (m at : ℕ) (out : List ℕ) → ample < at �
 unfolding within
 within-none xs m at out h = simp tests (record { put = put-none at out; short = omega arith })
 
--- Text whose length a run over no room has told is stored, or refused where there is no room.
-module _ {bytes : List ℕ} {size : ℕ} {none none′ : List ℕ} (p : Put bytes 0 none size none′) (out : List ℕ) where
-  pub store-short : (a : Answer ℕ) → a ≡ refuses 3 0 → length out < size → record { answer = a; buffer = out } ≡ store out bytes
+-- What a run over no room leaves.
+sets-none : (xs : List ℕ) (at : ℕ) → sets [] at xs ≡ []
+sets-none [] at = refl
+sets-none (x ∷ xs) at = sets-none xs (suc at)
+
+-- Text whose length a run over no room, in front of the buffer, has told is stored, or refused where there is no room.
+module _ {bytes : List ℕ} {size : ℕ} {none : List ℕ} (p : Put bytes 0 [] size none) (out : List ℕ) where
+  as-was : none ++ out ≡ out
+  as-was = rw (p .stored, sets-none bytes 0)
+
+  pub store-short : (a : Answer ℕ) → a ≡ refuses 3 0 → length (none ++ out) < size → record { answer = a; buffer = none ++ out } ≡ store out bytes
   unfolding store
   store-short a e h =
-      let l : length out < length bytes = omega (arith, p .end) in
-      rw e (simp tests)
+      let l : length out < length bytes = omega (arith, p .end, ap length as-was) in
+      rw (e, as-was) (simp tests)
 
-  pub store-done : (r : ℕ) (after : List ℕ) → size ≤ length out → Put bytes 0 out r after → record { answer = gives size; buffer = after } ≡ store out bytes
+  pub store-done : (r : ℕ) (after : List ℕ) → size ≤ length (none ++ out) → Put bytes 0 (none ++ out) r after
+      → record { answer = gives size; buffer = after } ≡ store out bytes
   unfolding store put
   store-done r after h q =
-      let l : length bytes ≤ length out = omega (arith, p .end) in
+      let l : length bytes ≤ length out = omega (arith, p .end, ap length as-was) in
       let e : size ≡ length bytes = omega (arith, p .end) in
-      let g : after ≡ put out 0 bytes = q .stored ∙ sets-eq bytes out 0 (omega arith) ∙ append-assoc [] bytes _ in
+      let g : after ≡ put out 0 bytes = q .stored ∙ ap (λ (o : List ℕ). sets o 0 bytes) as-was ∙ sets-eq bytes out 0 (omega arith) ∙ append-assoc [] bytes _ in
       rw (e, g) (simp tests)
