@@ -306,11 +306,15 @@ mod tests {
         assert_eq!(whole(&[1, 2, 0x80, 0, 5]), 5);
     }
 
-    /// What the list writer writes is read back link by link; its refusals, and those of a link with their place.
+    /// What the list writer writes is what plain Rust writes, is read back link by link, and leaves the bytes behind it; its refusals, which
+    /// change no byte, and those of a link with their place.
     #[test]
     fn lists_written_and_read() {
-        let (words, mut buffer) = ([0, 127, 128, 32_767, 16_384, 3], [0; 32]);
+        let (words, mut buffer, mut list) = ([0, 127, 128, 32_767, 16_384, 3], [170; 32], vec![]);
         let size = write_list(32_768, &words, &mut buffer).unwrap();
+        plain::encode(32_768, &words, &mut list).unwrap();
+        assert_eq!(buffer[..size], list);
+        assert_eq!(buffer[size..], [170; 32][size..]);
         let (n, mut at) = head(&buffer[..size]).map(|(n, at)| (n, at as usize)).unwrap();
         for (entries, link) in words.chunks(2).enumerate() {
             let (a, b, next) = link_at(n, entries as u32, &buffer[..size], at).unwrap();
@@ -321,12 +325,15 @@ mod tests {
         let refused = |number, place| Refusal { number, place };
         assert_eq!(link_at(n, 3, &buffer[..size], size), Err(refused(8, size as u64)));
         assert_eq!(link_at(n, 16_777_215, &buffer[..size], 3), Err(refused(12, 3)));
+        let mut buffer = [170; 32];
         for (n, words, number) in [(0, &[0, 1][..], 1), (32_769, &[0, 1], 1), (4, &[0, 4], 4), (4, &[2, 2], 5), (4, &[0, 1, 2], 8)] {
             assert_eq!(write_list(n, words, &mut buffer), Err(refused(number, 0)), "{n} {words:?}");
+            assert_eq!(plain::encode(n, words, &mut list), Err(number), "{n} {words:?}");
         }
-        for room in 0..3 {
-            assert_eq!(write_list(4, &[0, 1], &mut buffer[..room]), Err(refused(3, 0)));
+        for room in 0..size {
+            assert_eq!(write_list(32_768, &words, &mut buffer[..room]), Err(refused(3, 0)), "{room} bytes");
         }
+        assert_eq!(buffer, [170; 32]);
     }
 
     /// An array too short for a state: 3, after 1 and 2 where n and k are given.

@@ -95,7 +95,7 @@ pub fn read_number(bytes: &[u8], at: usize) -> Read
     Read::Number(value as u32, next)
 }
 
-// How many groups `value` has: by the rule that `put_groups` writes them by.
+// How many groups `value` has: one, and those of the quotient.
 fn groups_in(value: u32) -> usize
     ensures { λ r. ⌜ r ≡ length (allGroups value) ⌝ }
 {
@@ -115,7 +115,8 @@ pub fn width(value: u32) -> usize
     groups_in(value)
 }
 
-// Puts the groups of `value` into `buffer` from position `at` on.
+// Puts the groups of `value` into `buffer` from position `at` on: 'the remainder by 128, and each further group is written by the same rule from
+// the quotient'.
 fn put_groups(value: u32, buffer: &mut [u8], at: usize)
     requires { ⌜ at + length (allGroups value) ≤ length (now buffer) ⌝ }
     ensures { λ _. ⌜ now (buffer .exit) ≡ put (now (buffer .entry)) at (allGroups value) ⌝ }
@@ -128,7 +129,7 @@ fn put_groups(value: u32, buffer: &mut [u8], at: usize)
     put_groups(value / 128, buffer, at + 1);
 }
 
-// Writes `value` into `buffer` from position `at` on.
+// Writes `value` into `buffer` from position `at` on, once it is known to fit.
 pub fn write_number(value: u32, buffer: &mut [u8], at: usize) -> Written
     ensures { λ r. ⌜ wrote r (now (buffer .exit)) ≡ writeNumber value (now (buffer .entry)) at ⌝ }
 {

@@ -117,7 +117,7 @@ fn print(row: &Row, ours: &Side, plain: &Side) {
 /// The forest that is read or adopted: the one that plain Rust builds; in a rising one each fragment hangs under the next.
 fn parents(row: &Row, blocks: &[Vec<u8>]) -> Vec<u32> {
     match (row.what, row.list) {
-        (What::Build | What::Report | What::Take, _) => Vec::new(),
+        (What::Build | What::Report | What::Take | What::Write, _) => Vec::new(),
         (What::Adopt, List::Rising) => (1..row.n).chain([row.n - 1]).collect(),
         _ => sides::build_plain(row, blocks).answer[..row.n as usize].to_vec(),
     }
@@ -128,6 +128,7 @@ fn measure(row: &Row, options: &Options) {
     let links = lists::links(row);
     let blocks = lists::blocks(row, &links);
     let parents = parents(row, &blocks);
+    let words: Vec<u32> = links.iter().flat_map(|&(a, b)| [a, b]).collect();
     let (mut ours, mut plain) = (Side(Vec::new()), Side(Vec::new()));
     let start = Clock::start();
     for run in 0..options.runs {
@@ -141,6 +142,7 @@ fn measure(row: &Row, options: &Options) {
                 What::Report => sides::report(row, &blocks),
                 What::Take => sides::take(row, &blocks),
                 What::Adopt => sides::adopt(row, &parents),
+                What::Write => sides::write(row, &words),
             });
         }
         if options.plain {
@@ -150,6 +152,7 @@ fn measure(row: &Row, options: &Options) {
                 What::Report => sides::report_plain(row, &blocks),
                 What::Take => sides::take_plain(row, &blocks),
                 What::Adopt => sides::adopt_plain(&parents),
+                What::Write => sides::write_plain(row, &words),
             });
         }
         if let (Some(a), Some(b)) = (ours.0.last(), plain.0.last()) {

@@ -9,6 +9,7 @@ pub enum What {
     Report,
     Take,
     Adopt,
+    Write,
 }
 
 #[derive(Clone, Copy, PartialEq)]
@@ -43,6 +44,7 @@ impl fmt::Display for What {
             What::Report => "report",
             What::Take => "take",
             What::Adopt => "adopt",
+            What::Write => "write",
         })
     }
 }
@@ -74,7 +76,7 @@ impl Row {
     pub fn named(words: &[String]) -> Option<Row> {
         let [what, list, n, links, k, blocks] = words else { return None };
         let row = Row {
-            what: *[What::Build, What::Read, What::Report, What::Take, What::Adopt].iter().find(|w| w.to_string() == *what)?,
+            what: *[What::Build, What::Read, What::Report, What::Take, What::Adopt, What::Write].iter().find(|w| w.to_string() == *what)?,
             list: *[List::Random, List::Path, List::Hurt, List::Rising].iter().find(|l| l.to_string() == *list)?,
             n: n.parse().ok()?,
             links: links.parse().ok()?,
@@ -131,6 +133,9 @@ pub fn table(quick: bool, by: usize) -> Vec<Row> {
     }
     for (list, n) in [(List::Random, N), (List::Path, N), (List::Rising, N / 4), (List::Rising, N / 2), (List::Rising, N)] {
         add(What::Adopt, list, n, if list == List::Rising { 0 } else { LINKS }, 4, Blocks::One);
+    }
+    for n in [N / 256, N / 8, N] {
+        add(What::Write, List::Random, n, LINKS, 4, Blocks::One);
     }
     rows
 }

@@ -3,8 +3,8 @@
 use super::clock::Clock;
 use super::lists::BLOCK;
 use super::rows::{Blocks, Row};
-use welmocant::plain::{decode, levels, words_of, Building, Link, Reading};
-use welmocant::{put_number, text_room, Ending, Forest, Heard, Next, Telling};
+use welmocant::plain::{decode, encode, levels, words_of, Building, Link, Reading};
+use welmocant::{put_number, text_room, write_list, Ending, Forest, Heard, Next, Telling};
 
 /// One run: its time, what must be the same on both sides, and the words it took.
 pub struct Run {
@@ -12,7 +12,7 @@ pub struct Run {
     pub time: f64,
     pub passes: usize,
     /// Of a building the parents and the levels, of a reading the notes and the parent links seen: as the fragment table has them. Of a report
-    /// the bytes of its text.
+    /// the bytes of its text, of a list written its bytes.
     pub answer: Vec<u32>,
     pub words: usize,
 }
@@ -204,4 +204,28 @@ pub fn adopt_plain(parents: &[u32]) -> Run {
     let start = Clock::start();
     let answer = levels(parents).unwrap();
     Run { time: start.passed(), passes: 0, words: 2 * answer.len(), answer }
+}
+
+/// Room for a list of these words: three bytes for each, and for n.
+fn list_room(words: &[u32]) -> usize {
+    3 * (words.len() + 1)
+}
+
+/// A list written: n, and its links of two words each.
+#[inline(never)]
+pub fn write(row: &Row, words: &[u32]) -> Run {
+    let mut list = vec![0; list_room(words)];
+    let start = Clock::start();
+    let size = write_list(row.n, words, &mut list).unwrap();
+    let time = start.passed();
+    Run { time, passes: 0, answer: list[..size].iter().map(|&byte| byte as u32).collect(), words: list.len() / 4 }
+}
+
+#[inline(never)]
+pub fn write_plain(row: &Row, words: &[u32]) -> Run {
+    let mut list = Vec::with_capacity(list_room(words));
+    let start = Clock::start();
+    encode(row.n, words, &mut list).unwrap();
+    let time = start.passed();
+    Run { time, passes: 0, words: words_of(&list), answer: list.into_iter().map(|byte| byte as u32).collect() }
 }
