@@ -19,7 +19,7 @@ unfolding put
 put-none s at = simp (add-zero, take-append-drop)
 
 -- The first byte put is a store, and the others are put behind it.
-pub put-more : (s : List ℕ) (at b : ℕ) (bytes : List ℕ) → at < length s → put (set s at b) (at + 1) bytes ≡ put s at (b ∷ bytes)
+put-more : (s : List ℕ) (at b : ℕ) (bytes : List ℕ) → at < length s → put (set s at b) (at + 1) bytes ≡ put s at (b ∷ bytes)
 unfolding put
 put-more s at b bytes h =
     let i : at < suc (at + length bytes) = omega arith in
@@ -29,7 +29,7 @@ pub length-put : (s : List ℕ) (at : ℕ) (bytes : List ℕ) → at + length by
 unfolding put
 length-put s at bytes h = simp (length-append, length-take, length-drop) (omega arith)
 
-pub groups-few : (groups v : ℕ) → length (groupsOf groups v) ≤ groups
+groups-few : (groups v : ℕ) → length (groupsOf groups v) ≤ groups
 unfolding groupsOf
 groups-few zero v = omega arith
 groups-few (suc groups) v =
@@ -58,7 +58,7 @@ grows zero = omega arith
 grows (suc v) = omega (arith, pow-suc 128 (suc v), grows v)
 
 -- All groups of a number, by the rule that they are written by.
-pub all-groups : (further v : ℕ) → v < 128 ^ suc further → groupsOf (suc further) v ≡ allGroups v
+all-groups : (further v : ℕ) → v < 128 ^ suc further → groupsOf (suc further) v ≡ allGroups v
 unfolding allGroups
 all-groups further v h = groups-same further v v h (grows v)
 
