@@ -69,16 +69,16 @@ module _ {n k : ℕ} (pos : 1 ≤ k) where
   passes_done : {t : Tables} (gs : List (List Link)) → Standing n t → Rested n t → Each (λ g. Among n (linked g)) gs → T (done n t) → T (done n (passes n k t gs))
   unfolding passes
   passes_done [] S R A d = d
-  passes_done (g ∷ gs) S R (a, A) d = passes_done gs (pass_stands pos S R g a) (pass_rests pos S R g a) A (pass_done S R g a d)
+  passes_done {t = t} (g ∷ gs) S R (a, A) d = passes_done {t = pass n k t g} gs (pass_stands pos S R g a) (pass_rests pos S R g a) A (pass_done S R g a d)
 
   -- Passes that leave something unplaced have placed more than k fragments each.
   passes_place : {t : Tables} (gs : List (List Link)) → Standing n t → Rested n t → Each (λ g. Among n (linked g)) gs → (T (done n (passes n k t gs)) → ⊥) → count (placed t) n + length gs * suc k ≤ count (placed (passes n k t gs)) n
   unfolding passes
   passes_place [] S R A d = omega arith
-  passes_place (g ∷ gs) S R (a, A) d =
+  passes_place {t = t} (g ∷ gs) S R (a, A) d =
       let S' = pass_stands pos S R g a in
       let R' = pass_rests pos S R g a in
-      omega (arith, suc-mul (length gs) (suc k), unfinished_places S R g a (λ e. d (passes_done gs S' R' A e)), passes_place gs S' R' A d)
+      omega (arith, suc-mul (length gs) (suc k), unfinished_places S R g a (λ e. d (passes_done {t = pass n k t g} gs S' R' A e)), passes_place {t = pass n k t g} gs S' R' A d)
 
 -- Passes from the start, told any lists, that left something unplaced; and the pass after them, whatever it is told.
 module _ (n k : ℕ) (pos : 1 ≤ k) (gs : List (List Link)) (among : Each (λ g. Among n (linked g)) gs) (unfinished : T (done n (passes n k (fresh n) gs)) → ⊥) where

@@ -199,7 +199,7 @@ unfolding build_links
 list_kept [] A U = U
 list_kept {n} {k} {t} ((a, b) ∷ g) A U =
     let i : (a < n) × (b < n) × (a ≢ b) = A a b (linked_head (a, b) g a b (between_here a b)) in
-    list_kept g (λ u v s. A u v (linked_tail (a, b) g u v s)) (building_kept i.0 i.1 i.2 U)
+    list_kept {t = build_link n k t (a, b)} g (λ u v s. A u v (linked_tail (a, b) g u v s)) (building_kept i.0 i.1 i.2 U)
 
 -- Where nothing is held, and so where a pass begins.
 pub none_holding : (n k : ℕ) (t : Tables) → 1 ≤ k → t.held ≡ [] → Holding n k t
