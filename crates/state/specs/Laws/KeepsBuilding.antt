@@ -10,7 +10,7 @@ use Rattle.base.specs.Truth.{and_l, and_r, and_intro, or_l, or_r}
 use Rattle.base.specs.Link.{Link}
 use Rattle.rules.specs.Links.{linked, Among}
 use Rattle.rules.specs.Tables.{Tables, rank, mark_of, placed, put_note, put_mark, put_held}
-use Rattle.rules.specs.Building.{note_link, hold, build_links, close_building, done}
+use Rattle.rules.specs.Building.{note_link, hold, build_link, build_links, close_building, done}
 use Rattle.rules.proofs.Laws.Facts.{Loose, Underway}
 use Rattle.rules.proofs.Laws.Links.{between_here, linked_head, linked_tail}
 use Rattle.rules.proofs.Laws.Tables.{SameForest, forest_refl, forest_trans, same_parent_of, same_rank, same_placed, same_mark_of, put_note_forest, put_mark_forest, put_held_forest, mark_of_put_mark_other}
@@ -93,7 +93,7 @@ tidy_list {n} {k} {t} [] A U D = (D, record { forest = forest_refl t; crossed = 
 tidy_list {n} {k} {t} ((a, b) ∷ g) A U D =
     let i : (a < n) × (b < n) × (a ≢ b) = A a b (linked_head (a, b) g a b (between_here a b)) in
     let (D', B) = tidy_step i.0 i.1 i.2 U D (link_step n k a b t) in
-    let (D'', C) = tidy_list g (λ u v s. A u v (linked_tail (a, b) g u v s)) (building_kept i.0 i.1 i.2 U) D' in
+    let (D'', C) = tidy_list {t = build_link n k t (a, b)} g (λ u v s. A u v (linked_tail (a, b) g u v s)) (building_kept i.0 i.1 i.2 U) D' in
     (D'', beside_trans B C)
 
 -- Building is no other stage.

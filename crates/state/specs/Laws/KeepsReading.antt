@@ -2,7 +2,7 @@
 -- Assumes nothing.
 use Rattle.std.specs.Prelude.{ℕ, ◌≤◌, ◌<◌, ◌≡◌, false, ◌||◌, not, ◌⊎◌, ◌≢◌}
 use Rattle.std.proofs.Math.Path.{refl, ap}
-use Rattle.std.proofs.Common.{sym, ◌∙◌, inl, inr, arith, T_not}
+use Rattle.std.proofs.Common.{sym, subst, ◌∙◌, inl, inr, arith, T_not}
 use Rattle.std.proofs.Math.Bool.{true}
 use mathlib.Core.List.{List, [], ◌∷◌}
 use Rattle.std.proofs.Math.Decide.{ℕ_discrete}
@@ -75,7 +75,7 @@ module _ (s : State) (t : Tables) (a : Agrees s t) (some : 1 ≤ s.k) (settled :
       let F = cleared_forest t s.n in
       let C = cleared_rested s.n t in
       let all : (v : ℕ) → v < s.n → T (placed (cleared s.n t) v) = λ v l. rw (same_placed F) (a.all_placed settled v l) in
-      rw (unheld_cleared s.n t held_none)
+      subst (λ x. Agrees (moved g s.passes 0 x s) x) (sym (unheld_cleared s.n t held_none))
       (rested_agrees (moved g s.passes 0 (cleared s.n t) s) (cleared s.n t) (standing_cleared a.standing) C
       some (ap length C.no_held) C.no_cross refl (rw (same_placed F) a.passes_few)
       (λ v l f. absurd (placed_loose (cleared s.n t) v (all v l) f)) (λ x. absurd (b x)) (λ x. all) r)
