@@ -4,11 +4,7 @@ use borrow.Author.Rules.{rules}
 use native.Mathlib.Omega.{arith}
 use mathlib.Core.Path.{sym}
 use Rattle.text.specs.Laws.Put.{put_is, put_then, decimal_last, decimal_more, decimal_end}
-use Prim.Native.Nat.{ℕ}
 use Rattle.text.proofs.lines.+number.Goals as goal
-
-abbrev number_at : ℕ → In 1 number-kinds.ps
-number_at t = and 1 number-kinds.ps (is 1 number-kinds.ps μ-number t) number.Pre
 
 pub overflow_add-x : goal.overflow_add-x
 overflow_add-x t c = search rules

@@ -2,4 +2,4 @@
 use Rattle.text.proofs.lines.+number.Given as goal
 
 abbrev pub decreases-number : goal.decreases-number
-decreases-number l = l.at.1.0
+decreases-number l = l.x
