@@ -4,7 +4,6 @@ use Prim.Native.Nat.{◌-◌}
 use mathlib.Core.Bool.{true}
 use mathlib.Core.Path.{◌≡◌, sym, ap, ◌∙◌}
 use native.Mathlib.Omega.{arith}
-use borrow.Author.Tests.{not-true, not-false}
 use Rattle.rules.specs.Search.{every}
 use Rattle.state.specs.Layout.{forest_in}
 use Rattle.state.specs.Laws.Tests.{every_none, every_more, every_fails}
@@ -15,12 +14,12 @@ pub loop-v-init : goal.loop-v-init
 loop-v-init c = (omega arith, every_none _)
 
 pub returns-then-not-fragment : goal.returns-then-not-fragment
-returns-then-not-fragment c = every_fails _ c.loop-v.v _ (omega arith) (sym c.fragment.ensures ∙ not-true _ c.if-not-fragment.true)
+returns-then-not-fragment c = every_fails _ c.loop-v.v _ (omega arith) (sym c.fragment.ensures ∙ c.if-not-fragment.true)
 
 pub loop-v-preserved : goal.loop-v-preserved
 loop-v-preserved c =
     let l = c.loop-v in
-    (omega arith, every_more _ l.v l.invariant.1 (sym c.fragment.ensures ∙ not-false _ c.if-not-fragment.false))
+    (omega arith, every_more _ l.v l.invariant.1 (sym c.fragment.ensures ∙ c.if-not-fragment.false))
 
 pub returns : goal.returns
 returns c =
