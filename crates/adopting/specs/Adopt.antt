@@ -1,8 +1,7 @@
 -- How a table of parents is followed. Definitions only.
 -- Assumes nothing.
 use Rattle.std.specs.Prelude.{ℕ, suc, ◌+◌, ◌*◌, ◌≤◌, ◌<◌, ◌≡◌, Bool, true, false, List, length, get_or, drop, ltb}
-use Rattle.rules.specs.Forest.{up, depth}
-use Rattle.rules.specs.Laws.Facts.{Levels}
+use Rattle.rules.specs.Forest.{up, depth, Levels}
 use Rattle.rules.specs.Adopting.{parent_in, rooted_in}
 
 -- v's parent is a fragment.

@@ -6,7 +6,7 @@ use Rattle.base.specs.Link.{Link}
 use Rattle.lists.specs.List.{links_at}
 use Rattle.rules.specs.Tables.{Tables, note_of}
 use Rattle.rules.specs.Building.{pieces, better, hold, hold_link, build_links}
-use Rattle.rules.specs.Laws.Facts.{Underway, Loose}
+use Rattle.rules.specs.Facts.{Underway, Loose}
 use Rattle.state.specs.Layout.{words, stored, word_of, forest_in, held_link}
 use Rattle.state.specs.Test.{all_zero}
 use Rattle.state.specs.Call.{fragments_most, room_most}

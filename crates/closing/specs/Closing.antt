@@ -5,7 +5,7 @@ use Rattle.base.specs.Pick.{pick}
 use Rattle.rules.specs.Search.{first}
 use Rattle.rules.specs.Tables.{Tables, rank, note_of, placed}
 use Rattle.rules.specs.Building.{Walk, pieces, member, noted, top_of, hang, walked, place_path, place_piece, place_pieces, close_building}
-use Rattle.rules.specs.Laws.Facts.{Standing, Ready, Underway}
+use Rattle.rules.specs.Facts.{Standing, Ready, Underway}
 use Rattle.state.specs.Layout.{held_links, wiped, words, stored, section, forest_in, frag_of}
 use Rattle.state.specs.Test.{all_zero, ends_fit}
 use Rattle.state.specs.declared.Stage.TheVariants.{Building}

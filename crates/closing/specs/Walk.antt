@@ -5,7 +5,7 @@ use Rattle.base.specs.Pick.{pick}
 use Rattle.rules.specs.Search.{count}
 use Rattle.rules.specs.Tables.{Tables, rank, placed}
 use Rattle.rules.specs.Building.{pieces, member, next_of, walked}
-use Rattle.rules.specs.Laws.Facts.{Standing}
+use Rattle.rules.specs.Facts.{Standing}
 use Rattle.state.specs.Layout.{words, forest_in}
 use Rattle.state.specs.Call.{fragments_most}
 use Rattle.closing.specs.Arranged.{links_in, start_of, least_of, smaller_at, Arranged, Frame}

@@ -1,4 +1,6 @@
 // An index of words in a part of a table: a word stands in the first empty slot from its home slot on.
+#![tactic(auto)]
+
 ghost use Rattle.std.specs.Prelude.{◌≡◌, ◌-◌, min};
 ghost use Rattle.index.specs.Index.{home_of, Place};
 

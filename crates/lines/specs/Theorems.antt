@@ -5,7 +5,7 @@ use Rattle.std.proofs.Common.{arith, length-append}
 use Rattle.lists.specs.List.{fragments_most, entries_most}
 use Rattle.rules.specs.Tables.{Tables, parent_of}
 use Rattle.rules.specs.Reading.{piece, cut}
-use Rattle.rules.specs.Laws.Reports.{piece_of_tree}
+use Rattle.rules.proofs.Laws.Reports.{piece_of_tree}
 use Rattle.lines.specs.Report.{fragment_at, report_lines}
 use Rattle.lines.specs.Laws.Length.{soles_few, fragment_line_few, first_line_few, lines_few}
 

@@ -1,4 +1,6 @@
 // Blocks of links and list files, read. Numbers are read through the crate `numbers`, known by its promises only.
+#![tactic(auto)]
+
 ghost use Rattle.std.specs.Prelude.{◌≡◌};
 ghost use Rattle.base.specs.Answer.{refuses};
 ghost use Rattle.lists.specs.List.{no_size, bad_ends, read_ends, scan_link, scan_block, read_list, cut_block};

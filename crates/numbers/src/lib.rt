@@ -1,4 +1,6 @@
 // Numbers in groups of seven bits, one byte each, lowest group first. Programs above know them by these promises only.
+#![tactic(auto)]
+
 ghost use Rattle.std.specs.Prelude.{◌≡◌, ◌+◌, ◌≤◌, get_or, length};
 ghost use Rattle.base.specs.Answer.{refuses};
 ghost use Rattle.numbers.specs.Number.{read_number, put, width_of, write_number};

@@ -4,7 +4,7 @@ use Rattle.std.specs.Prelude.{ℕ, suc, ◌+◌, ◌-◌, ◌*◌, ◌≤◌, �
 use Rattle.base.specs.Pick.{pick}
 use Rattle.base.specs.Link.{Link}
 use Rattle.rules.specs.Building.{pieces, size_of, held_in}
-use Rattle.rules.specs.Laws.Pieces.{Inside}
+use Rattle.rules.specs.Links.{Inside}
 use Rattle.state.specs.Layout.{words, stored, held_links}
 use Rattle.state.specs.Test.{all_zero}
 use Rattle.state.specs.Call.{fragments_most}

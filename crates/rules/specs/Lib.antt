@@ -10,5 +10,3 @@ pub mod Numbers
 pub mod Facts
 pub mod Method
 pub mod Known
-pub mod Laws
-pub mod Theorems

@@ -1,4 +1,6 @@
 // The state of a forest that is built, read and asked about, and the two lent tables that go with it.
+#![tactic(auto)]
+
 ghost use Rattle.std.specs.Prelude.{◌≡◌};
 ghost use Rattle.state.specs.Answers.{begun_told};
 ghost use Rattle.state.specs.Call.{bounds_refusal};

@@ -1,4 +1,6 @@
 // The words of the tables by what they say: the stored sections and the held links.
+#![tactic(auto)]
+
 mod links;
 mod sections;
 

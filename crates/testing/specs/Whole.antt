@@ -4,7 +4,7 @@
 use Rattle.std.specs.Prelude.{ℕ, ◌*◌, ◌≤◌, ◌<◌, ◌≡◌, List, length, T}
 use Rattle.rules.specs.Tables.{placed}
 use Rattle.rules.specs.Numbers.{turn, end, at_turn}
-use Rattle.rules.specs.Laws.Facts.{Standing}
+use Rattle.rules.specs.Facts.{Standing}
 use Rattle.state.specs.Layout.{words, forest_in, turn_in, end_in, whose_in}
 use Rattle.state.specs.Call.{fragments_most}
 

@@ -1,4 +1,6 @@
 // The lines of the report as text.
+#![tactic(auto)]
+
 ghost use Rattle.std.specs.Prelude.{◌≡◌};
 ghost use Rattle.numbers.specs.Answers.{wrote};
 ghost use Rattle.text.specs.Lines.{refusal_line, no_file_line, store};

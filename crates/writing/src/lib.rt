@@ -1,4 +1,6 @@
 // The list writer. Numbers are written through the crate `numbers` and links are tested as `lists` tests them, both known by their promises only.
+#![tactic(auto)]
+
 ghost use Rattle.std.specs.Prelude.{◌≡◌, ◌++◌, length};
 ghost use Rattle.numbers.specs.Number.{written_number, put};
 ghost use Rattle.numbers.specs.Answers.{told_end, wrote};

@@ -13,10 +13,10 @@ use Rattle.base.specs.Truth.{and_r, T_dec, T_true, T_false, true_T, false_T}
 use Rattle.rules.specs.Forest.{up, depth}
 use Rattle.rules.specs.Search.{every, table}
 use Rattle.rules.specs.Adopting.{parent_in, rooted_in, adoptable, adopted}
-use Rattle.rules.specs.Laws.Search.{every_at, table_length, table_at}
-use Rattle.rules.specs.Laws.Up.{up_add, up_par, par_in, root_lev, child_lev, level_below}
-use Rattle.rules.specs.Laws.Tables.{getD_zeros}
-use Rattle.rules.specs.Laws.Adopting.{adoptable_exact, adopted_levels}
+use Rattle.rules.proofs.Laws.Search.{every_at, table_length, table_at}
+use Rattle.rules.proofs.Laws.Up.{up_add, up_par, par_in, root_lev, child_lev, level_below}
+use Rattle.rules.proofs.Laws.Tables.{getD_zeros}
+use Rattle.rules.proofs.Laws.Adopting.{adoptable_exact, adopted_levels}
 use Rattle.state.specs.Layout.{words, stored, section, wiped, tables_in, frag_of, held_of}
 use Rattle.state.specs.Test.{all_zero}
 use Rattle.state.specs.Call.{bounds_refusal}

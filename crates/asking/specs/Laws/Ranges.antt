@@ -14,10 +14,10 @@ use Rattle.rules.specs.Search.{count, some}
 use Rattle.rules.specs.Tables.{Tables, par, lev}
 use Rattle.rules.specs.Reading.{above, lowest, reach, child_of, cut}
 use Rattle.rules.specs.Numbers.{turn, end, at_turn}
-use Rattle.rules.specs.Laws.Search.{some_intro, some_elim, least_le, least_hit, count_two, two_count}
-use Rattle.rules.specs.Laws.Up.{up_in, up_over, over_refl, over_same, level_arrives, child_lev}
-use Rattle.rules.specs.Laws.Reading.{above_test, child_facts}
-use Rattle.rules.specs.Laws.Numbers.{turn_one, at_turn_lem, turn_at_lem, above_range, turn_end, child_turn, root_end, over_turn, next_child, first_child}
+use Rattle.rules.proofs.Laws.Search.{some_intro, some_elim, least_le, least_hit, count_two, two_count}
+use Rattle.rules.proofs.Laws.Up.{up_in, up_over, over_refl, over_same, level_arrives, child_lev}
+use Rattle.rules.proofs.Laws.Reading.{above_test, child_facts}
+use Rattle.rules.proofs.Laws.Numbers.{turn_one, at_turn_lem, turn_at_lem, above_range, turn_end, child_turn, root_end, over_turn, next_child, first_child}
 use Rattle.asking.specs.Ranges.{shut, Reached, Walked}
 
 module _ (n : ℕ) (t : Tables) (L : Levels n (par t) (lev t)) where

@@ -10,10 +10,10 @@ use Rattle.rules.specs.Search.{first}
 use Rattle.rules.specs.Tables.{Tables, par, lev}
 use Rattle.rules.specs.Reading.{above, root_of, piece}
 use Rattle.rules.specs.Numbers.{turn, end, at_turn}
-use Rattle.rules.specs.Laws.Search.{first_passes, first_below}
-use Rattle.rules.specs.Laws.Up.{up_in, up_over, root_lev, level_arrives}
-use Rattle.rules.specs.Laws.Reading.{above_test}
-use Rattle.rules.specs.Laws.Numbers.{turn_in_lem, at_turn_lem, turn_at_lem, above_range, turn_end, child_turn, next_root}
+use Rattle.rules.proofs.Laws.Search.{first_passes, first_below}
+use Rattle.rules.proofs.Laws.Up.{up_in, up_over, root_lev, level_arrives}
+use Rattle.rules.proofs.Laws.Reading.{above_test}
+use Rattle.rules.proofs.Laws.Numbers.{turn_in_lem, at_turn_lem, turn_at_lem, above_range, turn_end, child_turn, next_root}
 use Rattle.state.specs.Layout.{forest_in, above_in}
 use Rattle.testing.specs.Whole.{Numbered}
 use Rattle.testing.specs.Laws.Whole.{levels, above_numbered}

@@ -14,7 +14,7 @@ use Rattle.base.specs.Link.{Link}
 use Rattle.lists.specs.List.{scan_link}
 use Rattle.lists.specs.Laws.Link.{Accepted, link_told_lem}
 use Rattle.rules.specs.Links.{linked}
-use Rattle.rules.specs.Laws.Links.{between_here, linked_nil, linked_turn, append_left, snoc_cases, snoc_last}
+use Rattle.rules.proofs.Laws.Links.{between_here, linked_nil, linked_turn, append_left, snoc_cases, snoc_last}
 use Rattle.state.specs.Layout.{wiped, words, link_in, word_of, held_links}
 use Rattle.state.specs.Laws.Words.{link_word_lem, word_small, word_some}
 use Rattle.state.specs.Call.{fragments_most}

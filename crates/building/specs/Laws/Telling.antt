@@ -23,11 +23,11 @@ use Rattle.base.specs.Link.{Link}
 use Rattle.rules.specs.Links.{between, linked}
 use Rattle.rules.specs.Tables.{Tables, rank, note_of, placed, put_mark, put_held}
 use Rattle.rules.specs.Building.{pieces, better, note_link, hold, fill, hold_link, build_link, build_links}
-use Rattle.rules.specs.Laws.Facts.{Underway, Loose}
-use Rattle.rules.specs.Laws.Pieces.{linked_label, label_in, label_own}
-use Rattle.rules.specs.Laws.Tables.{placed_loose, rank_placed}
-use Rattle.rules.specs.Laws.Quota.{held_few}
-use Rattle.rules.specs.Laws.Step.{building_kept}
+use Rattle.rules.proofs.Laws.Facts.{Underway, Loose}
+use Rattle.rules.proofs.Laws.Pieces.{linked_label, label_in, label_own}
+use Rattle.rules.proofs.Laws.Tables.{placed_loose, rank_placed}
+use Rattle.rules.proofs.Laws.Quota.{held_few}
+use Rattle.rules.proofs.Laws.Step.{building_kept}
 use Rattle.state.specs.Layout.{wiped, words, stored, word_of, link_word, tables_in, forest_in, held_links}
 use Rattle.state.specs.Test.{all_zero}
 use Rattle.state.specs.Laws.Clear.{wiped_length, wiped_front, wiped_rest, wiped_past}

@@ -4,7 +4,7 @@ use Rattle.std.specs.Prelude.{ℕ, ◌*◌, ◌≤◌, ◌≡◌, refl, Bool, tr
 use Rattle.std.proofs.Common.{sym, arith, mul-le-mul}
 use Rattle.base.specs.Pick.{tests}
 use Rattle.rules.specs.Tables.{placed}
-use Rattle.rules.specs.Laws.Search.{count_le}
+use Rattle.rules.proofs.Laws.Search.{count_le}
 use Rattle.state.specs.Layout.{tables_in}
 use Rattle.state.specs.Call.{fragments_most, room_most}
 use Rattle.state.specs.Laws.Keeps.{Passes, head_passes}

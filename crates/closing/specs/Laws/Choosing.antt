@@ -11,8 +11,8 @@ use Rattle.base.specs.Truth.{and_intro, and_l, and_r, T_true, T_false, eq_to_eqb
 use Rattle.rules.specs.Search.{count, first}
 use Rattle.rules.specs.Tables.{Tables, rank, note_of, mark_of}
 use Rattle.rules.specs.Building.{member, size_of, better, noted, lost, top_of}
-use Rattle.rules.specs.Laws.Pieces.{member_intro, member_elim}
-use Rattle.rules.specs.Laws.Search.{count_le, count_zero, count_yes, count_no, some_count, first_le, first_passes, first_least, some_intro, some_elim}
+use Rattle.rules.proofs.Laws.Pieces.{member_intro, member_elim}
+use Rattle.rules.proofs.Laws.Search.{count_le, count_zero, count_yes, count_no, some_count, first_le, first_passes, first_least, some_intro, some_elim}
 use Rattle.state.specs.Layout.{section, forest_in, bare}
 use Rattle.state.specs.Laws.Layout.{section_at, note_word, mark_word_lem}
 use Rattle.closing.specs.Closing.{labels_in, label_at, Follows, Chained, first_noted, top_by}

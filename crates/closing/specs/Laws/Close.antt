@@ -10,12 +10,12 @@ use Rattle.base.specs.Answer.{gives}
 use Rattle.rules.specs.Search.{every}
 use Rattle.rules.specs.Tables.{Tables, placed, cleared}
 use Rattle.rules.specs.Building.{close_building, done}
-use Rattle.rules.specs.Laws.Facts.{Standing, Underway}
-use Rattle.rules.specs.Laws.Search.{count_le}
-use Rattle.rules.specs.Laws.Tables.{SameForest, same_placed, standing_cleared}
-use Rattle.rules.specs.Laws.Links.{linked_nil}
-use Rattle.rules.specs.Laws.Close.{closing}
-use Rattle.rules.specs.Laws.CloseAny.{learnt_shown}
+use Rattle.rules.proofs.Laws.Facts.{Standing, Underway}
+use Rattle.rules.proofs.Laws.Search.{count_le}
+use Rattle.rules.proofs.Laws.Tables.{SameForest, same_placed, standing_cleared}
+use Rattle.rules.proofs.Laws.Links.{linked_nil}
+use Rattle.rules.proofs.Laws.Close.{closing}
+use Rattle.rules.proofs.Laws.CloseAny.{learnt_shown}
 use Rattle.state.specs.Layout.{moved_on, wiped, tables_in, forest_in, frag_of, held_of}
 use Rattle.state.specs.Test.{is_building, is_numbered}
 use Rattle.state.specs.Call.{head_refusal, headed, moved, leaves}

@@ -11,8 +11,8 @@ use Rattle.std.proofs.Math.ListN.{get_or, length-set}
 use Rattle.std.proofs.Math.Seq.{get_or-set_same, get_or-set_other}
 use Rattle.rules.specs.Tables.{Tables, parent_of, rank, placed, place}
 use Rattle.rules.specs.Building.{place_path}
-use Rattle.rules.specs.Laws.Facts.{Standing}
-use Rattle.rules.specs.Laws.Kept.{parent_placed}
+use Rattle.rules.proofs.Laws.Facts.{Standing}
+use Rattle.rules.proofs.Laws.Kept.{parent_placed}
 use Rattle.state.specs.Layout.{section, tables_in, forest_in}
 use Rattle.state.specs.Laws.Layout.{section_set, section_before, section_after, parent_word, level_word}
 use Rattle.closing.specs.Closing.{label_at, Follows, Chained, Copyable, copied_at, Copies, saved_at, Beside, Climbable, Climbs}

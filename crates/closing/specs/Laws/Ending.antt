@@ -10,9 +10,9 @@ use Rattle.base.specs.Truth.{and_l, and_r, T_true, T_false}
 use Rattle.rules.specs.Links.{linked}
 use Rattle.rules.specs.Tables.{Tables, placed, cleared}
 use Rattle.rules.specs.Building.{pieces, place_pieces, close_building, done}
-use Rattle.rules.specs.Laws.Search.{every_at, every_intro}
-use Rattle.rules.specs.Laws.Pieces.{Inside, label_in, pieces_length}
-use Rattle.rules.specs.Laws.Tables.{placed_rank, rank_placed}
+use Rattle.rules.proofs.Laws.Search.{every_at, every_intro}
+use Rattle.rules.proofs.Laws.Pieces.{Inside, label_in, pieces_length}
+use Rattle.rules.proofs.Laws.Tables.{placed_rank, rank_placed}
 use Rattle.state.specs.Layout.{held_links, wiped, words, stored, radix, section, link_in, tables_in, forest_in, frag_of, bare}
 use Rattle.state.specs.Test.{ends_fit, none_twice}
 use Rattle.state.specs.Laws.Clear.{wiped_is, wiped_length, wiped_before, wiped_within, wiped_behind}

@@ -9,13 +9,13 @@ use Rattle.base.specs.Pick.{pick_true, pick_false}
 use Rattle.base.specs.Truth.{and_l, and_r, true_T, T_true, T_false}
 use Rattle.rules.specs.Tables.{Tables, note_of, placed}
 use Rattle.rules.specs.Building.{pieces, member, lost, noted, top_of, place_walk, place_piece, place_from, place_pieces}
-use Rattle.rules.specs.Laws.Facts.{Loose}
-use Rattle.rules.specs.Laws.Pieces.{Inside, label_le, member_elim}
-use Rattle.rules.specs.Laws.Noted.{top_none, top_noted}
-use Rattle.rules.specs.Laws.Tables.{same_note_of, placed_loose, rank_placed}
-use Rattle.rules.specs.Laws.Partial.{Of, Closing}
-use Rattle.rules.specs.Laws.Close.{lost_same, not_placed, ready_at, closing}
-use Rattle.rules.specs.Laws.CloseAny.{shown, learnt_shown}
+use Rattle.rules.proofs.Laws.Facts.{Loose}
+use Rattle.rules.proofs.Laws.Pieces.{Inside, label_le, member_elim}
+use Rattle.rules.proofs.Laws.Noted.{top_none, top_noted}
+use Rattle.rules.proofs.Laws.Tables.{same_note_of, placed_loose, rank_placed}
+use Rattle.rules.proofs.Laws.Partial.{Of, Closing}
+use Rattle.rules.proofs.Laws.Close.{lost_same, not_placed, ready_at, closing}
+use Rattle.rules.proofs.Laws.CloseAny.{shown, learnt_shown}
 use Rattle.state.specs.Layout.{tables_in, forest_in, bare}
 use Rattle.state.specs.Laws.Layout.{level_word}
 use Rattle.closing.specs.Closing.{labels_in, label_at, Chained, top_by, due_at, Beside, Hanging, PathLeaves, WholeLeaves, Due, PieceLeaves, Closable, AllLeaves}

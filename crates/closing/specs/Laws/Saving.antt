@@ -13,11 +13,11 @@ use Rattle.rules.specs.Links.{linked, JoinedBy, here}
 use Rattle.rules.specs.Search.{count}
 use Rattle.rules.specs.Tables.{Tables, parent_of, rank, placed, place}
 use Rattle.rules.specs.Building.{Walk, pieces, member, size_of, hang, walked, place_path}
-use Rattle.rules.specs.Laws.Facts.{Walked}
-use Rattle.rules.specs.Laws.Search.{count_mono, count_one_more}
-use Rattle.rules.specs.Laws.Pieces.{joined_label, member_intro}
-use Rattle.rules.specs.Laws.Walk.{walk}
-use Rattle.rules.specs.Laws.Tables.{rank_most, parent_of_place_same, parent_of_place_other, rank_place_same, rank_place_other, place_length, place_held}
+use Rattle.rules.proofs.Laws.Facts.{Walked}
+use Rattle.rules.proofs.Laws.Search.{count_mono, count_one_more}
+use Rattle.rules.proofs.Laws.Pieces.{joined_label, member_intro}
+use Rattle.rules.proofs.Laws.Walk.{walk}
+use Rattle.rules.proofs.Laws.Tables.{rank_most, parent_of_place_same, parent_of_place_other, rank_place_same, rank_place_other, place_length, place_held}
 use Rattle.state.specs.Layout.{section, tables_in}
 use Rattle.state.specs.Laws.Layout.{section_length, section_at, tables_are, parent_word, level_word}
 use Rattle.closing.specs.Arranged.{Frame}

@@ -9,8 +9,8 @@ use Rattle.base.specs.Truth.{and_intro, and_l, and_r}
 use Rattle.rules.specs.Links.{linked}
 use Rattle.rules.specs.Tables.{placed}
 use Rattle.rules.specs.Building.{next_of}
-use Rattle.rules.specs.Laws.Links.{linked_turn}
-use Rattle.rules.specs.Laws.Tables.{placed_rank, rank_placed}
+use Rattle.rules.proofs.Laws.Links.{linked_turn}
+use Rattle.rules.proofs.Laws.Tables.{placed_rank, rank_placed}
 use Rattle.state.specs.Layout.{tables_in, held_links}
 use Rattle.state.specs.Laws.Layout.{level_word}
 use Rattle.closing.specs.Arranged.{links_in, start_of, smaller_at, after_at, Arranged}

@@ -17,12 +17,12 @@ use Rattle.base.specs.Truth.{and_intro, and_r}
 use Rattle.rules.specs.Links.{linked, JoinedBy, here}
 use Rattle.rules.specs.Tables.{Tables, parent_of, rank, placed, place}
 use Rattle.rules.specs.Building.{Walk, pieces, member, hang, next_of, reach_next, go_back, walk_step, walk_steps, walked}
-use Rattle.rules.specs.Laws.Facts.{Standing, Loose}
-use Rattle.rules.specs.Laws.Chain.{join, one}
-use Rattle.rules.specs.Laws.Search.{some_count, count_one_more}
-use Rattle.rules.specs.Laws.Pieces.{Inside, joined_label, member_intro}
-use Rattle.rules.specs.Laws.Tables.{placed_loose, place_held, placed_place_same, placed_place_other, standing_same, standing_place, rank_most}
-use Rattle.rules.specs.Laws.Walk.{step_on, step_back, back_at, back_rest, steps_suc, steps_rest, next_new}
+use Rattle.rules.proofs.Laws.Facts.{Standing, Loose}
+use Rattle.rules.proofs.Laws.Chain.{join, one}
+use Rattle.rules.proofs.Laws.Search.{some_count, count_one_more}
+use Rattle.rules.proofs.Laws.Pieces.{Inside, joined_label, member_intro}
+use Rattle.rules.proofs.Laws.Tables.{placed_loose, place_held, placed_place_same, placed_place_other, standing_same, standing_place, rank_most}
+use Rattle.rules.proofs.Laws.Walk.{step_on, step_back, back_at, back_rest, steps_suc, steps_rest, next_new}
 use Rattle.state.specs.Layout.{words, tables_in, forest_in}
 use Rattle.state.specs.Laws.Layout.{level_word, parent_word, store_place, store_scratch}
 use Rattle.closing.specs.Arranged.{links_in, start_of, least_of, smaller_at, Arranged, Frame}

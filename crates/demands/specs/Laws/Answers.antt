@@ -11,8 +11,8 @@ use Rattle.rules.specs.Removal.{PieceIn, Piece}
 use Rattle.rules.specs.Tables.{parent_of, par, lev}
 use Rattle.rules.specs.Reading.{accepted, piece, sole, cut}
 use Rattle.rules.specs.Facts.{SameReports}
-use Rattle.rules.specs.Laws.Tables.{par_placed}
-use Rattle.rules.specs.Theorems.{level_steps}
+use Rattle.rules.proofs.Laws.Tables.{par_placed}
+use Rattle.rules.proofs.Theorems.{level_steps}
 use Rattle.state.specs.Test.{is_building, is_read}
 use Rattle.state.specs.Unique.{asked_decided, judged_decided}
 use Rattle.state.specs.Ask.{asks, parent_call, level_call, piece_call, cut_call, sole_call}

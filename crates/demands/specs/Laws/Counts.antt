@@ -19,9 +19,9 @@ use Rattle.rules.specs.Tables.{par}
 use Rattle.rules.specs.Building.{close_building, done, passes, ceiling, lower_ceiling}
 use Rattle.rules.specs.Reading.{accepted}
 use Rattle.rules.specs.Adopting.{parent_in}
-use Rattle.rules.specs.Laws.Tables.{same_par}
-use Rattle.rules.specs.Laws.Adopting.{adopted_par}
-use Rattle.rules.specs.Laws.Append.{depth_first_same}
+use Rattle.rules.proofs.Laws.Tables.{same_par}
+use Rattle.rules.proofs.Laws.Adopting.{adopted_par}
+use Rattle.rules.proofs.Laws.Append.{depth_first_same}
 use Rattle.state.specs.Test.{is_building, is_reading}
 use Rattle.state.specs.Call.{moved}
 use Rattle.state.specs.Take.{takes}

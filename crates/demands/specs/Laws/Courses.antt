@@ -13,7 +13,7 @@ use Rattle.rules.specs.Links.{Links, linked, Tells, Each}
 use Rattle.rules.specs.Forest.{DepthFirst}
 use Rattle.rules.specs.Building.{close_building, done, ceiling}
 use Rattle.rules.specs.Adopting.{parent_in}
-use Rattle.rules.specs.Laws.Append.{each_snoc}
+use Rattle.rules.proofs.Laws.Append.{each_snoc}
 use Rattle.state.specs.Test.{is_building, is_built, is_reading, is_read}
 use Rattle.state.specs.Call.{moved}
 use Rattle.state.specs.Take.{takes}

@@ -18,7 +18,7 @@ use Rattle.rules.specs.Tables.{Tables}
 use Rattle.rules.specs.Building.{done}
 use Rattle.rules.specs.Reading.{accepted}
 use Rattle.rules.specs.Adopting.{adoptable}
-use Rattle.rules.specs.Laws.Adopting.{adoptable_exact}
+use Rattle.rules.proofs.Laws.Adopting.{adoptable_exact}
 use Rattle.state.specs.Layout.{tables_in, held_of}
 use Rattle.state.specs.Test.{is_building, is_reading, sound}
 use Rattle.state.specs.Call.{bounds_refusal, Left, head_refusal, headed, leaves}

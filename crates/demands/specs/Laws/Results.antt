@@ -16,11 +16,11 @@ use Rattle.rules.specs.Tables.{Tables, placed, par, fresh, cleared}
 use Rattle.rules.specs.Building.{close_building, done, passes, ceiling, lower_ceiling}
 use Rattle.rules.specs.Reading.{read_links, accepted, sole, cut, root_of, piece}
 use Rattle.rules.specs.Facts.{Standing, SameReports}
-use Rattle.rules.specs.Laws.Search.{every_at, every_intro}
-use Rattle.rules.specs.Laws.Tables.{SameForest, same_placed, same_par, same_lev, placed_loose, fresh_loose}
-use Rattle.rules.specs.Laws.Passes.{told_forest}
-use Rattle.rules.specs.Laws.Reading.{read_forest}
-use Rattle.rules.specs.Theorems.{finished_forest, finished_pieces, passes_within, reading_accepts, sole_by_removal, cut_by_removal, piece_by_removal, reports_equal}
+use Rattle.rules.proofs.Laws.Search.{every_at, every_intro}
+use Rattle.rules.proofs.Laws.Tables.{SameForest, same_placed, same_par, same_lev, placed_loose, fresh_loose}
+use Rattle.rules.proofs.Laws.Passes.{told_forest}
+use Rattle.rules.proofs.Laws.Reading.{read_forest}
+use Rattle.rules.proofs.Theorems.{finished_forest, finished_pieces, passes_within, reading_accepts, sole_by_removal, cut_by_removal, piece_by_removal, reports_equal}
 use Rattle.state.specs.Test.{is_building, is_reading, is_read}
 use Rattle.state.specs.Call.{moved}
 use Rattle.state.specs.Close.{read}

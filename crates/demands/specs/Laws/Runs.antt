@@ -17,11 +17,11 @@ use Rattle.rules.specs.Tables.{Tables, clear_notes, cleared}
 use Rattle.rules.specs.Building.{build_links, close_building, done, pass, passes}
 use Rattle.rules.specs.Reading.{read_links, accepted}
 use Rattle.rules.specs.Facts.{Standing, Rested}
-use Rattle.rules.specs.Laws.Links.{among_nil}
-use Rattle.rules.specs.Laws.Tables.{fresh_rested}
-use Rattle.rules.specs.Laws.Reading.{read_append, read_forest}
-use Rattle.rules.specs.Laws.Adopting.{adopted_rested}
-use Rattle.rules.specs.Laws.Append.{build_append, among_append, passes_snoc, each_snoc, passes_stand, cleared_same, rested_cleared, unheld_cleared}
+use Rattle.rules.proofs.Laws.Links.{among_nil}
+use Rattle.rules.proofs.Laws.Tables.{fresh_rested}
+use Rattle.rules.proofs.Laws.Reading.{read_append, read_forest}
+use Rattle.rules.proofs.Laws.Adopting.{adopted_rested}
+use Rattle.rules.proofs.Laws.Append.{build_append, among_append, passes_snoc, each_snoc, passes_stand, cleared_same, rested_cleared, unheld_cleared}
 use Rattle.state.specs.Layout.{tables_in}
 use Rattle.state.specs.Test.{is_building, is_reading}
 use Rattle.state.specs.Call.{bounds_refusal, Begun, moved}

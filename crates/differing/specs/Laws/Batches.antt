@@ -11,7 +11,7 @@ use Rattle.std.proofs.Math.Dec.{T, not_T, T_not, ltb, ltb→lt}
 use Rattle.std.proofs.Math.ListN.{get_or}
 use Rattle.base.specs.Truth.{and_intro, and_l, and_r, true_T, false_T, T_true, T_false}
 use Rattle.rules.specs.Links.{between, linked}
-use Rattle.rules.specs.Laws.Links.{between_elim, between_here, linked_nil, linked_cases, linked_head, linked_tail}
+use Rattle.rules.proofs.Laws.Links.{between_elim, between_here, linked_nil, linked_cases, linked_head, linked_tail}
 use Rattle.rules.specs.Tables.{Tables, placed}
 use Rattle.state.specs.Layout.{wiped, words, stored, link_in, forest_in, held_links, held_link}
 use Rattle.state.specs.Test.{ends_fit, none_twice}

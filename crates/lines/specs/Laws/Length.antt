@@ -16,8 +16,8 @@ use Rattle.base.specs.Truth.{and_intro, and_l, and_r, or_l, or_r, or_cases, T_de
 use Rattle.rules.specs.Search.{count}
 use Rattle.rules.specs.Tables.{Tables, par}
 use Rattle.rules.specs.Reading.{child_of, sole_below, sole}
-use Rattle.rules.specs.Laws.Search.{count_le, count_yes, count_no, count_zero}
-use Rattle.rules.specs.Laws.Split.{bit, bit_yes, bit_parts, count_suc, count_parts}
+use Rattle.rules.proofs.Laws.Search.{count_le, count_yes, count_no, count_zero}
+use Rattle.rules.proofs.Laws.Split.{bit, bit_yes, bit_parts, count_suc, count_parts}
 use Rattle.text.specs.Lines.{decimal, item, cut_word, first_line, fragment_line, sole_line}
 use Rattle.text.specs.Laws.Put.{digits_few}
 use Rattle.lines.specs.Report.{sole_at, lines_to, soles_from}

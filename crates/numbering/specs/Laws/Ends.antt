@@ -5,7 +5,7 @@ use Rattle.std.proofs.Common.{sym, ap, ◌∙◌, arith, get_or-set_same, get_or
 use Rattle.std.proofs.Math.Decide.{ℕ_discrete}
 use Rattle.rules.specs.Tables.{Tables}
 use Rattle.rules.specs.Numbers.{below, turn, end, at_turn}
-use Rattle.rules.specs.Laws.Numbers.{turn_in_lem, turn_one, turn_at_lem}
+use Rattle.rules.proofs.Laws.Numbers.{turn_in_lem, turn_one, turn_at_lem}
 use Rattle.state.specs.Layout.{forest_in}
 use Rattle.testing.specs.Whole.{Whole}
 use Rattle.testing.specs.Laws.Whole.{levels}

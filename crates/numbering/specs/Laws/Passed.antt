@@ -11,11 +11,11 @@ use Rattle.rules.specs.Search.{sum}
 use Rattle.rules.specs.Tables.{Tables, par, lev}
 use Rattle.rules.specs.Reading.{child_of}
 use Rattle.rules.specs.Numbers.{below, below_if, beside, passed}
-use Rattle.rules.specs.Laws.Tally.{sum_most}
-use Rattle.rules.specs.Laws.Sums.{sum_zero, sum_suc, sum_same}
-use Rattle.rules.specs.Laws.Below.{beside_root, beside_child, below_if_yes, below_if_no}
-use Rattle.rules.specs.Laws.Reading.{child_facts}
-use Rattle.rules.specs.Laws.Up.{par_in}
+use Rattle.rules.proofs.Laws.Tally.{sum_most}
+use Rattle.rules.proofs.Laws.Sums.{sum_zero, sum_suc, sum_same}
+use Rattle.rules.proofs.Laws.Below.{beside_root, beside_child, below_if_yes, below_if_no}
+use Rattle.rules.proofs.Laws.Reading.{child_facts}
+use Rattle.rules.proofs.Laws.Up.{par_in}
 use Rattle.state.specs.Layout.{forest_in}
 use Rattle.testing.specs.Whole.{Whole}
 use Rattle.testing.specs.Laws.Whole.{levels}

@@ -12,12 +12,12 @@ use Rattle.rules.specs.Tables.{Tables, par, lev}
 use Rattle.rules.specs.Forest.{Levels}
 use Rattle.rules.specs.Reading.{above, child_of}
 use Rattle.rules.specs.Numbers.{below, below_if}
-use Rattle.rules.specs.Laws.Search.{count_le}
-use Rattle.rules.specs.Laws.Tally.{sum_most}
-use Rattle.rules.specs.Laws.Sums.{sum_same, sum_more}
-use Rattle.rules.specs.Laws.Below.{below_children, below_if_yes, below_if_no}
-use Rattle.rules.specs.Laws.Reading.{child_facts}
-use Rattle.rules.specs.Laws.Up.{par_in}
+use Rattle.rules.proofs.Laws.Search.{count_le}
+use Rattle.rules.proofs.Laws.Tally.{sum_most}
+use Rattle.rules.proofs.Laws.Sums.{sum_same, sum_more}
+use Rattle.rules.proofs.Laws.Below.{below_children, below_if_yes, below_if_no}
+use Rattle.rules.proofs.Laws.Reading.{child_facts}
+use Rattle.rules.proofs.Laws.Up.{par_in}
 use Rattle.state.specs.Layout.{forest_in}
 use Rattle.testing.specs.Whole.{Whole}
 use Rattle.testing.specs.Only.{Only}

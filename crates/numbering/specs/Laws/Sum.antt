@@ -6,8 +6,8 @@ use Rattle.base.specs.Truth.{T_dec}
 use Rattle.rules.specs.Search.{sum}
 use Rattle.rules.specs.Tables.{Tables}
 use Rattle.rules.specs.Numbers.{below_if}
-use Rattle.rules.specs.Laws.Sums.{sum_zero, sum_suc}
-use Rattle.rules.specs.Laws.Below.{below_if_yes, below_if_no}
+use Rattle.rules.proofs.Laws.Sums.{sum_zero, sum_suc}
+use Rattle.rules.proofs.Laws.Below.{below_if_yes, below_if_no}
 
 pub sum_le : (f g : ℕ → ℕ) (n : ℕ) → ((i : ℕ) → i < n → f i ≤ g i) → sum f n ≤ sum g n
 sum_le f g zero e = omega (arith, sum_zero f)

@@ -7,8 +7,8 @@ use Rattle.std.proofs.Math.Decide.{ℕ_discrete, dec_lt}
 use Rattle.base.specs.Pick.{tests}
 use Rattle.rules.specs.Tables.{par}
 use Rattle.rules.specs.Numbers.{passed, turn}
-use Rattle.rules.specs.Laws.Up.{par_in}
-use Rattle.rules.specs.Laws.Numbers.{turn_root, turn_child, turn_in_lem}
+use Rattle.rules.proofs.Laws.Up.{par_in}
+use Rattle.rules.proofs.Laws.Numbers.{turn_root, turn_child, turn_in_lem}
 use Rattle.state.specs.Layout.{forest_in}
 use Rattle.testing.specs.Whole.{Whole}
 use Rattle.testing.specs.Only.{Only}

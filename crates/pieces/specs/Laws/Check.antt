@@ -8,7 +8,7 @@ use Rattle.std.proofs.Math.ListN.{get_or}
 use Rattle.base.specs.Truth.{true_T}
 use Rattle.rules.specs.Search.{every}
 use Rattle.rules.specs.Building.{pieces, member, size_of, held_in}
-use Rattle.rules.specs.Laws.Pieces.{label_le}
+use Rattle.rules.proofs.Laws.Pieces.{label_le}
 use Rattle.state.specs.Layout.{forest_in, held_links}
 use Rattle.state.specs.Call.{room_most}
 use Rattle.state.specs.Test.{asked, ends_fit, quota_fits}

@@ -13,11 +13,11 @@ use Rattle.base.specs.Link.{Link}
 use Rattle.rules.specs.Links.{linked, tally}
 use Rattle.rules.specs.Search.{count}
 use Rattle.rules.specs.Building.{merged, pieces, member, size_of, held_in}
-use Rattle.rules.specs.Laws.Links.{between_here, linked_nil, linked_head, linked_tail, snoc_cases}
-use Rattle.rules.specs.Laws.Search.{count_le, count_two}
-use Rattle.rules.specs.Laws.Split.{bit_most, count_some, tally_nil, tally_cons, between_both}
-use Rattle.rules.specs.Laws.Pieces.{Inside, merged_larger, merged_other, merged_one, merged_inside, merged_keeps, alone_at, pieces_nil, pieces_snoc, label_in, label_own, member_intro, member_elim}
-use Rattle.rules.specs.Laws.Quota.{size_join, size_other, held_in_join, held_in_other, held_in_more, held_in_as}
+use Rattle.rules.proofs.Laws.Links.{between_here, linked_nil, linked_head, linked_tail, snoc_cases}
+use Rattle.rules.proofs.Laws.Search.{count_le, count_two}
+use Rattle.rules.proofs.Laws.Split.{bit_most, count_some, tally_nil, tally_cons, between_both}
+use Rattle.rules.proofs.Laws.Pieces.{Inside, merged_larger, merged_other, merged_one, merged_inside, merged_keeps, alone_at, pieces_nil, pieces_snoc, label_in, label_own, member_intro, member_elim}
+use Rattle.rules.proofs.Laws.Quota.{size_join, size_other, held_in_join, held_in_other, held_in_more, held_in_as}
 use Rattle.state.specs.Layout.{words, stored, link_in, held_links, held_link}
 use Rattle.state.specs.Call.{fragments_most}
 use Rattle.state.specs.Laws.Lists.{length-map}

@@ -9,8 +9,8 @@ use Rattle.base.specs.Pick.{pick, pick_true, pick_false, tests}
 use Rattle.base.specs.Truth.{T_true, T_false}
 use Rattle.base.specs.Link.{Link}
 use Rattle.rules.specs.Building.{pieces, member, size_of, held_in}
-use Rattle.rules.specs.Laws.Search.{some_count}
-use Rattle.rules.specs.Laws.Pieces.{label_le, label_own, member_intro, member_elim}
+use Rattle.rules.proofs.Laws.Search.{some_count}
+use Rattle.rules.proofs.Laws.Pieces.{label_le, label_own, member_intro, member_elim}
 use Rattle.state.specs.Layout.{words, stored, held_links}
 use Rattle.state.specs.Test.{is_building}
 use Rattle.state.specs.Call.{head_refusal}

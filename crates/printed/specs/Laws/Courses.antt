@@ -23,11 +23,11 @@ use Rattle.rules.specs.Tables.{Tables, parent_of, placed, fresh, clear_notes, cl
 use Rattle.rules.specs.Building.{done, pass, passes, ceiling}
 use Rattle.rules.specs.Reading.{read_links, accepted}
 use Rattle.rules.specs.Facts.{Standing, Rested}
-use Rattle.rules.specs.Laws.Append.{passes_snoc, each_snoc, passes_stand, unheld_cleared}
-use Rattle.rules.specs.Laws.Search.{every_at}
-use Rattle.rules.specs.Laws.Tables.{same_par, same_parent_of, placed_loose, fresh_loose, fresh_standing, fresh_rested}
-use Rattle.rules.specs.Laws.Reading.{read_forest}
-use Rattle.rules.specs.Theorems.{finished_forest, passes_within, forest_accepts, reading_accepts, sole_by_removal, cut_by_removal, piece_by_removal}
+use Rattle.rules.proofs.Laws.Append.{passes_snoc, each_snoc, passes_stand, unheld_cleared}
+use Rattle.rules.proofs.Laws.Search.{every_at}
+use Rattle.rules.proofs.Laws.Tables.{same_par, same_parent_of, placed_loose, fresh_loose, fresh_standing, fresh_rested}
+use Rattle.rules.proofs.Laws.Reading.{read_forest}
+use Rattle.rules.proofs.Theorems.{finished_forest, passes_within, forest_accepts, reading_accepts, sole_by_removal, cut_by_removal, piece_by_removal}
 use Rattle.state.specs.Call.{bounds_refusal}
 use Rattle.state.specs.Laws.Bounds.{bounds_known}
 use Rattle.state.specs.Laws.KeepsTables.{among_links}

@@ -16,8 +16,8 @@ use Rattle.lists.specs.List.{block_links}
 use Rattle.rules.specs.Tables.{Tables, clear_notes}
 use Rattle.rules.specs.Building.{build_links, close_building, pass, done}
 use Rattle.rules.specs.Reading.{read_links, accepted}
-use Rattle.rules.specs.Laws.Append.{build_append}
-use Rattle.rules.specs.Laws.Reading.{read_append}
+use Rattle.rules.proofs.Laws.Append.{build_append}
+use Rattle.rules.proofs.Laws.Reading.{read_append}
 use Rattle.state.specs.Layout.{tables_in}
 use Rattle.state.specs.Test.{sound, is_building, is_reading, is_read}
 use Rattle.state.specs.Call.{Left, refused, moved, head_refusal}

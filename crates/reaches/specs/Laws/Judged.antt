@@ -13,9 +13,9 @@ use Rattle.rules.specs.Forest.{up, Over}
 use Rattle.rules.specs.Search.{count, some, least}
 use Rattle.rules.specs.Tables.{Tables, par, lev}
 use Rattle.rules.specs.Reading.{above, lowest, reach, child_of, sole_below, root_of, piece}
-use Rattle.rules.specs.Laws.Search.{count_some, some_count, count_yes, count_no, count_zero, some_intro, some_elim}
-use Rattle.rules.specs.Laws.Reports.{piece_of_tree}
-use Rattle.rules.specs.Laws.Up.{par_in, up_in, up_lev}
+use Rattle.rules.proofs.Laws.Search.{count_some, some_count, count_yes, count_no, count_zero, some_intro, some_elim}
+use Rattle.rules.proofs.Laws.Reports.{piece_of_tree}
+use Rattle.rules.proofs.Laws.Up.{par_in, up_in, up_lev}
 use Rattle.state.specs.Layout.{stored, bare, forest_in}
 use Rattle.state.specs.Laws.Layout.{tables_frag_same}
 use Rattle.testing.specs.Whole.{Whole}

@@ -8,9 +8,9 @@ use Rattle.std.proofs.Math.Decide.{ℕ_discrete}
 use Rattle.rules.specs.Forest.{up, Over}
 use Rattle.rules.specs.Tables.{par, lev}
 use Rattle.rules.specs.Reading.{above, lowest, root_of}
-use Rattle.rules.specs.Laws.Search.{least_default, least_le, least_hit}
-use Rattle.rules.specs.Laws.Up.{up_zero, up_suc, up_rest, par_in, child_lev, over_refl, over_par, over_trans, level_below}
-use Rattle.rules.specs.Laws.Reading.{above_test}
+use Rattle.rules.proofs.Laws.Search.{least_default, least_le, least_hit}
+use Rattle.rules.proofs.Laws.Up.{up_zero, up_suc, up_rest, par_in, child_lev, over_refl, over_par, over_trans, level_below}
+use Rattle.rules.proofs.Laws.Reading.{above_test}
 use Rattle.state.specs.Layout.{forest_in}
 use Rattle.testing.specs.Whole.{Whole}
 use Rattle.testing.specs.Only.{Only}

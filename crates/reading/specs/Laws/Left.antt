@@ -7,7 +7,7 @@ use mathlib.Core.List.{List, ◌++◌, append_assoc}
 use Rattle.std.proofs.lemmas.List.{length-replicate}
 use Rattle.base.specs.Truth.{T_dec, T_true, T_false, false_T, true_T, or_r, or_cases}
 use Rattle.rules.specs.Tables.{Tables, clear_notes}
-use Rattle.rules.specs.Laws.Tables.{SameForest}
+use Rattle.rules.proofs.Laws.Tables.{SameForest}
 use Rattle.state.specs.Layout.{words, stored, numbers, moved_on, wiped, tables_in, forest_in, numbers_of, behind, frag_of, held_of}
 use Rattle.state.specs.Test.{is_building, is_built, is_reading, is_numbered}
 use Rattle.state.specs.Close.{opens}

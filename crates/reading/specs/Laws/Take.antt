@@ -10,7 +10,7 @@ use Rattle.base.specs.Answer.{gives, refuses}
 use Rattle.base.specs.Link.{Link}
 use Rattle.rules.specs.Tables.{Tables}
 use Rattle.rules.specs.Reading.{read_links}
-use Rattle.rules.specs.Laws.Tables.{SameForest}
+use Rattle.rules.proofs.Laws.Tables.{SameForest}
 use Rattle.lists.specs.List.{block_links, scan_block}
 use Rattle.lists.specs.Laws.Block.{scan_gives, scan_refuses}
 use Rattle.lists.specs.Theorems.{accepted_count}

@@ -16,9 +16,9 @@ use Rattle.base.specs.Answer.{gives, refuses}
 use Rattle.base.specs.Link.{Link}
 use Rattle.rules.specs.Tables.{par, lev, put_crossed}
 use Rattle.rules.specs.Reading.{above, hear, read_link, read_links}
-use Rattle.rules.specs.Laws.Tables.{SameForest, same_par, same_lev, same_placed, standing_same}
-use Rattle.rules.specs.Laws.Numbers.{turn_end}
-use Rattle.rules.specs.Laws.SameNumbers.{same_turn, same_end, same_at_turn}
+use Rattle.rules.proofs.Laws.Tables.{SameForest, same_par, same_lev, same_placed, standing_same}
+use Rattle.rules.proofs.Laws.Numbers.{turn_end}
+use Rattle.rules.proofs.Laws.SameNumbers.{same_turn, same_end, same_at_turn}
 use Rattle.state.specs.Layout.{stored, section, tables_in, forest_in, turn_in, end_in, above_in}
 use Rattle.state.specs.Laws.Layout.{section_same, section_length, note_word, store_note, store_mark, store_crossed}
 use Rattle.testing.specs.Whole.{Whole, Numbered}

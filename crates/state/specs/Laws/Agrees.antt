@@ -6,7 +6,7 @@ use Rattle.rules.specs.Search.{count}
 use Rattle.rules.specs.Tables.{Tables, parent_of, note_of, mark_of, placed, lev}
 use Rattle.rules.specs.Building.{done}
 use Rattle.rules.specs.Reading.{accepted}
-use Rattle.rules.specs.Laws.Facts.{Standing, Rested, Loose, Holding}
+use Rattle.rules.proofs.Laws.Facts.{Standing, Rested, Loose, Holding}
 use Rattle.state.specs.Test.{entries_most, is_building, is_built, is_reading, is_read, asked, stage_fits, forest_fits, ends_fit, held_fits, notes_fit, rest_zero, counts_fit, read_fits, rest_agrees, numbers_fit, fits}
 use Rattle.state.specs.declared.State.{State}
 

@@ -13,9 +13,9 @@ use Rattle.base.specs.Truth.{T_dec, T_true, T_false, and_l, and_r, and_intro, eq
 use Rattle.rules.specs.Search.{table, every}
 use Rattle.rules.specs.Tables.{Tables}
 use Rattle.rules.specs.Numbers.{turn, end, at_turn}
-use Rattle.rules.specs.Laws.Search.{every_at, every_intro, table_length, table_at}
-use Rattle.rules.specs.Laws.Tables.{SameForest}
-use Rattle.rules.specs.Laws.SameNumbers.{same_turn, same_end, same_at_turn}
+use Rattle.rules.proofs.Laws.Search.{every_at, every_intro, table_length, table_at}
+use Rattle.rules.proofs.Laws.Tables.{SameForest}
+use Rattle.rules.proofs.Laws.SameNumbers.{same_turn, same_end, same_at_turn}
 use Rattle.state.specs.Layout.{words, stored, numbers, stored_in, section, turn_in, end_in, whose_in, numbers_of, behind}
 use Rattle.state.specs.Test.{is_numbered, asked, all_zero, numbered_at, numbers_fit}
 use Rattle.state.specs.Laws.Lists.{parts, all_zeros, zeros_pass}

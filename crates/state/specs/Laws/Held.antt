@@ -8,13 +8,13 @@ use Rattle.base.specs.Link.{Link}
 use Rattle.rules.specs.Links.{between, linked, tally}
 use Rattle.rules.specs.Tables.{Tables, placed}
 use Rattle.rules.specs.Building.{pieces, member, size_of, held_in}
-use Rattle.rules.specs.Laws.Facts.{Loose}
-use Rattle.rules.specs.Laws.Links.{between_here, linked_nil, linked_cases, linked_turn}
-use Rattle.rules.specs.Laws.Tables.{placed_or_loose, placed_loose}
-use Rattle.rules.specs.Laws.Search.{every_at, every_intro}
-use Rattle.rules.specs.Laws.Split.{bit_yes, bit_no, bit_most, count_some, tally_cons, tally_nil, tally_none, by_between, between_flip}
-use Rattle.rules.specs.Laws.Pieces.{Inside, label_in, label_own, member_intro, member_elim}
-use Rattle.rules.specs.Laws.Quota.{Once, Quota}
+use Rattle.rules.proofs.Laws.Facts.{Loose}
+use Rattle.rules.proofs.Laws.Links.{between_here, linked_nil, linked_cases, linked_turn}
+use Rattle.rules.proofs.Laws.Tables.{placed_or_loose, placed_loose}
+use Rattle.rules.proofs.Laws.Search.{every_at, every_intro}
+use Rattle.rules.proofs.Laws.Split.{bit_yes, bit_no, bit_most, count_some, tally_cons, tally_nil, tally_none, by_between, between_flip}
+use Rattle.rules.proofs.Laws.Pieces.{Inside, label_in, label_own, member_intro, member_elim}
+use Rattle.rules.proofs.Laws.Quota.{Once, Quota}
 use Rattle.state.specs.Test.{asked, ends_fit, none_twice, quota_fits}
 
 -- A clause that is asked.

@@ -11,9 +11,9 @@ use Rattle.base.specs.Truth.{and_intro, T_true, T_false}
 use Rattle.rules.specs.Search.{count}
 use Rattle.rules.specs.Tables.{Tables, parent_of, mark_of, placed, put_mark}
 use Rattle.rules.specs.Building.{done}
-use Rattle.rules.specs.Laws.Facts.{Standing, Rested, Loose}
-use Rattle.rules.specs.Laws.Step.{rested_underway}
-use Rattle.rules.specs.Laws.Tables.{rested_note, rested_mark, same_mark_of, mark_of_put_mark_same, mark_of_put_mark_other, put_mark_length}
+use Rattle.rules.proofs.Laws.Facts.{Standing, Rested, Loose}
+use Rattle.rules.proofs.Laws.Step.{rested_underway}
+use Rattle.rules.proofs.Laws.Tables.{rested_note, rested_mark, same_mark_of, mark_of_put_mark_same, mark_of_put_mark_other, put_mark_length}
 use Rattle.state.specs.Layout.{words, tables_in, frag_of, held_of}
 use Rattle.state.specs.Test.{is_building, is_read, all_zero, ends_fit, rest_zero, sound}
 use Rattle.state.specs.Call.{bounds_refusal, Left, refused, head_refusal, headed}

@@ -9,8 +9,8 @@ use Rattle.base.specs.Answer.{gives, refuses}
 use Rattle.lists.specs.Laws.Link.{never_both}
 use Rattle.rules.specs.Tables.{Tables, fresh}
 use Rattle.rules.specs.Adopting.{adoptable, adopted}
-use Rattle.rules.specs.Laws.Tables.{placed_loose}
-use Rattle.rules.specs.Laws.Adopting.{adopted_placed, adopted_rested, adopted_stands}
+use Rattle.rules.proofs.Laws.Tables.{placed_loose}
+use Rattle.rules.proofs.Laws.Adopting.{adopted_placed, adopted_rested, adopted_stands}
 use Rattle.state.specs.Layout.{tables_in, frag_of, held_of}
 use Rattle.state.specs.Call.{bounds_refusal, Begun}
 use Rattle.state.specs.Start.{started, start_call}

@@ -11,16 +11,16 @@ use Rattle.base.specs.Link.{Link}
 use Rattle.rules.specs.Links.{linked, Among}
 use Rattle.rules.specs.Tables.{Tables, rank, mark_of, placed, put_note, put_mark, put_held}
 use Rattle.rules.specs.Building.{note_link, hold, build_link, build_links, close_building, done}
-use Rattle.rules.specs.Laws.Facts.{Loose, Underway}
-use Rattle.rules.specs.Laws.Links.{between_here, linked_head, linked_tail}
-use Rattle.rules.specs.Laws.Tables.{SameForest, forest_refl, forest_trans, same_parent_of, same_rank, same_placed, same_mark_of, put_note_forest, put_mark_forest, put_held_forest, mark_of_put_mark_other}
-use Rattle.rules.specs.Laws.Search.{every_at}
-use Rattle.rules.specs.Laws.Pieces.{label_joined}
-use Rattle.rules.specs.Laws.Quota.{sorted, joined_loose, held_few}
-use Rattle.rules.specs.Laws.Step.{Step, skips, notes, holds, marks, link_step, building_kept, list_kept}
-use Rattle.rules.specs.Laws.Close.{not_placed}
-use Rattle.rules.specs.Laws.Ceiling.{every_fails}
-use Rattle.rules.specs.Laws.CloseAny.{close_stands, close_rests, close_loose, close_adds}
+use Rattle.rules.proofs.Laws.Facts.{Loose, Underway}
+use Rattle.rules.proofs.Laws.Links.{between_here, linked_head, linked_tail}
+use Rattle.rules.proofs.Laws.Tables.{SameForest, forest_refl, forest_trans, same_parent_of, same_rank, same_placed, same_mark_of, put_note_forest, put_mark_forest, put_held_forest, mark_of_put_mark_other}
+use Rattle.rules.proofs.Laws.Search.{every_at}
+use Rattle.rules.proofs.Laws.Pieces.{label_joined}
+use Rattle.rules.proofs.Laws.Quota.{sorted, joined_loose, held_few}
+use Rattle.rules.proofs.Laws.Step.{Step, skips, notes, holds, marks, link_step, building_kept, list_kept}
+use Rattle.rules.proofs.Laws.Close.{not_placed}
+use Rattle.rules.proofs.Laws.Ceiling.{every_fails}
+use Rattle.rules.proofs.Laws.CloseAny.{close_stands, close_rests, close_loose, close_adds}
 use Rattle.state.specs.Test.{entries_most, is_building, is_built, is_reading, is_read, ends_fit}
 use Rattle.state.specs.Call.{moved}
 use Rattle.state.specs.Laws.Held.{ends_more}

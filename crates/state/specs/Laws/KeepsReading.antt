@@ -15,10 +15,10 @@ use Rattle.rules.specs.Links.{linked, Among}
 use Rattle.rules.specs.Search.{every}
 use Rattle.rules.specs.Tables.{Tables, parent_of, note_of, mark_of, placed, par, lev, put_mark, put_crossed, clear_notes, cleared}
 use Rattle.rules.specs.Reading.{hear, read_link, read_links, accepted, seen}
-use Rattle.rules.specs.Laws.Step.{none_holding}
-use Rattle.rules.specs.Laws.Tables.{SameForest, forest_refl, same_parent_of, same_placed, same_lev, placed_loose, par_placed, standing_same, standing_cleared, cleared_forest, cleared_rested, put_note_mark, put_crossed_mark}
-use Rattle.rules.specs.Laws.Reading.{Heard, heard_links}
-use Rattle.rules.specs.Laws.Append.{unheld_cleared}
+use Rattle.rules.proofs.Laws.Step.{none_holding}
+use Rattle.rules.proofs.Laws.Tables.{SameForest, forest_refl, same_parent_of, same_placed, same_lev, placed_loose, par_placed, standing_same, standing_cleared, cleared_forest, cleared_rested, put_note_mark, put_crossed_mark}
+use Rattle.rules.proofs.Laws.Reading.{Heard, heard_links}
+use Rattle.rules.proofs.Laws.Append.{unheld_cleared}
 use Rattle.state.specs.Test.{entries_most, is_building, is_built, is_reading, is_read, ends_fit}
 use Rattle.state.specs.Call.{moved}
 use Rattle.state.specs.Laws.Lists.{length_none}

@@ -13,8 +13,8 @@ use Rattle.rules.specs.Links.{linked, Among}
 use Rattle.rules.specs.Tables.{Tables, clear_notes}
 use Rattle.rules.specs.Building.{close_building, done}
 use Rattle.rules.specs.Reading.{accepted}
-use Rattle.rules.specs.Laws.Links.{linked_nil, linked_cases}
-use Rattle.rules.specs.Laws.Split.{by_between}
+use Rattle.rules.proofs.Laws.Links.{linked_nil, linked_cases}
+use Rattle.rules.proofs.Laws.Split.{by_between}
 use Rattle.state.specs.Layout.{tables_in}
 use Rattle.state.specs.Test.{entries_most, is_building, is_reading, is_read}
 use Rattle.state.specs.Call.{moved}

@@ -15,8 +15,8 @@ use Rattle.rules.specs.Search.{count, every}
 use Rattle.rules.specs.Tables.{Tables, parent_of, rank, note_of, mark_of, placed, lev}
 use Rattle.rules.specs.Building.{done}
 use Rattle.rules.specs.Reading.{accepted}
-use Rattle.rules.specs.Laws.Facts.{Rested, Loose, Holding}
-use Rattle.rules.specs.Laws.Search.{every_at}
+use Rattle.rules.proofs.Laws.Facts.{Rested, Loose, Holding}
+use Rattle.rules.proofs.Laws.Search.{every_at}
 use Rattle.state.specs.Test.{entries_most, is_building, is_built, is_reading, is_read, asked, stage_fits, stands_at, forest_fits, ends_fit, none_twice, held_fits, note_fits, clear_at, low_fits, notes_fit, counts_fit, read_fits, mark_fits, rest_agrees}
 use Rattle.state.specs.Laws.Lists.{length_none, all_none}
 use Rattle.state.specs.Laws.Held.{asked_use, not_placed, loose_not, ends_known, once_known, quota_known}

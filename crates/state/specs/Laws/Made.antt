@@ -11,8 +11,8 @@ use Rattle.base.specs.Truth.{and_intro, or_l, or_r, false_T, eq_to_eqb}
 use Rattle.rules.specs.Search.{count, every}
 use Rattle.rules.specs.Tables.{Tables, parent_of, rank, note_of, mark_of, placed, lev}
 use Rattle.rules.specs.Building.{done}
-use Rattle.rules.specs.Laws.Search.{every_intro}
-use Rattle.rules.specs.Laws.Tables.{rested_note, rested_mark}
+use Rattle.rules.proofs.Laws.Search.{every_intro}
+use Rattle.rules.proofs.Laws.Tables.{rested_note, rested_mark}
 use Rattle.state.specs.Test.{entries_most, is_building, is_built, is_reading, is_read, asked, stage_fits, stands_at, forest_fits, ends_fit, none_twice, held_fits, note_fits, clear_at, low_fits, notes_fit, counts_fit, read_fits, mark_fits, rest_agrees}
 use Rattle.state.specs.Laws.Held.{asked_make, not_placed, loose_not, once_made, quota_made}
 use Rattle.state.specs.declared.State.{State}

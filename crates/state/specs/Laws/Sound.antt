@@ -4,7 +4,7 @@ use Rattle.std.specs.Prelude.{ℕ, ◌-◌, ◌*◌, ◌≤◌, ◌≡◌, refl,
 use Rattle.std.proofs.Common.{sym, ◌∙◌, arith, length-take}
 use Rattle.base.specs.Truth.{and_l, and_r, and_intro}
 use Rattle.rules.specs.Tables.{Tables}
-use Rattle.rules.specs.Laws.Facts.{Underway}
+use Rattle.rules.proofs.Laws.Facts.{Underway}
 use Rattle.state.specs.Layout.{words, radix, link_in, tables_in, behind, frag_of, held_of}
 use Rattle.state.specs.Test.{is_building, all_zero, rest_zero, sound}
 use Rattle.state.specs.Laws.Bounds.{Bounds}

@@ -6,9 +6,9 @@ use Rattle.std.proofs.lemmas.List.{length-replicate}
 use Rattle.base.specs.Pick.{tests}
 use Rattle.rules.specs.Tables.{fresh, placed, parent_of}
 use Rattle.rules.specs.Building.{done}
-use Rattle.rules.specs.Laws.Links.{linked_nil}
-use Rattle.rules.specs.Laws.Tables.{fresh_standing, fresh_rested, fresh_loose, placed_loose, getD_zeros}
-use Rattle.rules.specs.Laws.Search.{every_at}
+use Rattle.rules.proofs.Laws.Links.{linked_nil}
+use Rattle.rules.proofs.Laws.Tables.{fresh_standing, fresh_rested, fresh_loose, placed_loose, getD_zeros}
+use Rattle.rules.proofs.Laws.Search.{every_at}
 use Rattle.state.specs.Layout.{wiped, words, tables_in, frag_of, held_of}
 use Rattle.state.specs.Call.{Begun, bounds_refusal}
 use Rattle.state.specs.Start.{started, start_call}

@@ -11,7 +11,7 @@ use borrow.Author.Tests.{le-ltb, eq-eqb, ne_eqb}
 use Rattle.base.specs.Pick.{tests}
 use Rattle.base.specs.Truth.{T_false, false_T}
 use Rattle.rules.specs.Search.{every}
-use Rattle.rules.specs.Laws.Search.{every_at}
+use Rattle.rules.proofs.Laws.Search.{every_at}
 use Rattle.rules.specs.Tables.{Tables, parent_of, rank, note_of, mark_of, placed}
 use Rattle.state.specs.Layout.{words}
 use Rattle.state.specs.Call.{fragments_most, bounds_refusal, head_refusal}

@@ -9,8 +9,8 @@ use borrow.Author.Tests.{lt-ltb, le-leb, lt-leb, eq-eqb, ne_eqb}
 use Rattle.base.specs.Pick.{tests}
 use Rattle.rules.specs.Search.{count}
 use Rattle.rules.specs.Tables.{Tables, parent_of, rank, note_of, mark_of, placed, lev}
-use Rattle.rules.specs.Laws.Search.{count_zero, count_le}
-use Rattle.rules.specs.Laws.Split.{bit, count_suc}
+use Rattle.rules.proofs.Laws.Search.{count_zero, count_le}
+use Rattle.rules.proofs.Laws.Split.{bit, count_suc}
 use Rattle.state.specs.Test.{entries_most, is_building, is_built, is_reading, is_read, asked, stands_at, clear_at, low_fits}
 use Rattle.state.specs.declared.State.{State}
 use Rattle.state.specs.declared.Stage.{Stage}

@@ -6,7 +6,7 @@ use Rattle.std.proofs.Math.Decide.{dec_lt}
 use Rattle.std.proofs.Math.ListN.{length-take, length-drop, get_or-append}
 use Rattle.std.proofs.Math.Seq.{get_or-take}
 use Rattle.rules.specs.Search.{table}
-use Rattle.rules.specs.Laws.Search.{table_length, table_at}
+use Rattle.rules.proofs.Laws.Search.{table_length, table_at}
 use Rattle.testing.specs.Laid.{laid_at, Laid}
 
 past_part : (p r : List ℕ) (m j : ℕ) → length p ≡ m → get_or (p ++ r) (m + j) 0 ≡ get_or r j 0

@@ -12,11 +12,11 @@ use Rattle.rules.specs.Search.{every}
 use Rattle.rules.specs.Forest.{Levels}
 use Rattle.rules.specs.Tables.{Tables, parent_of, placed, par, lev}
 use Rattle.rules.specs.Numbers.{turn, end, at_turn}
-use Rattle.rules.specs.Laws.Search.{every_at, every_intro}
-use Rattle.rules.specs.Laws.Tables.{par_placed}
-use Rattle.rules.specs.Laws.Fits.{Under, NextRoot, FitsAt, NumberedAt}
-use Rattle.rules.specs.Laws.Numbered.{fits_numbered}
-use Rattle.rules.specs.Laws.NumberedFits.{numbered_fits}
+use Rattle.rules.proofs.Laws.Search.{every_at, every_intro}
+use Rattle.rules.proofs.Laws.Tables.{par_placed}
+use Rattle.rules.proofs.Laws.Fits.{Under, NextRoot, FitsAt, NumberedAt}
+use Rattle.rules.proofs.Laws.Numbered.{fits_numbered}
+use Rattle.rules.proofs.Laws.NumberedFits.{numbered_fits}
 use Rattle.state.specs.Layout.{turn_in, end_in, whose_in}
 use Rattle.state.specs.Test.{numbered_at}
 use Rattle.testing.specs.Test.{under_at, comes_at, rises_to, root_fits, child_fits, words_fit}

@@ -15,11 +15,11 @@ use Rattle.rules.specs.Search.{count, every}
 use Rattle.rules.specs.Tables.{Tables, parent_of, rank, note_of, mark_of, placed, par, lev}
 use Rattle.rules.specs.Building.{pieces, member, size_of, held_in, done}
 use Rattle.rules.specs.Reading.{seen, accepted}
-use Rattle.rules.specs.Laws.Search.{every_at, every_intro, count_yes}
-use Rattle.rules.specs.Laws.Split.{tally_nil}
-use Rattle.rules.specs.Laws.Ceiling.{count_short}
+use Rattle.rules.proofs.Laws.Search.{every_at, every_intro, count_yes}
+use Rattle.rules.proofs.Laws.Split.{tally_nil}
+use Rattle.rules.proofs.Laws.Ceiling.{count_short}
 use Rattle.rules.specs.Forest.{Levels}
-use Rattle.rules.specs.Laws.Tables.{par_placed, levels_stand}
+use Rattle.rules.proofs.Laws.Tables.{par_placed, levels_stand}
 use Rattle.state.specs.Layout.{words, stored, numbers, stored_in, tables_in, forest_in, held_links}
 use Rattle.state.specs.Test.{entries_most, is_building, is_built, is_reading, is_read, is_numbered, asked, all_zero, stage_fits, stands_at, forest_fits, ends_fit, none_twice, quota_fits, held_fits, note_fits, clear_at, low_fits, notes_fit, rest_zero, counts_fit, read_fits, mark_fits, rest_agrees, numbers_fit, fits, sound}
 use Rattle.state.specs.Laws.Lists.{drop_take}

@@ -6,10 +6,10 @@ use Rattle.base.specs.Truth.{false_T, and_l, and_r, and_intro, T_ext}
 use Rattle.rules.specs.Tables.{par, lev}
 use Rattle.rules.specs.Reading.{above}
 use Rattle.rules.specs.Numbers.{turn, end}
-use Rattle.rules.specs.Laws.Facts.{Levels}
-use Rattle.rules.specs.Laws.Tables.{SameForest, same_placed, standing_same, lev_rank, placed_rank, standing_levels}
-use Rattle.rules.specs.Laws.Numbers.{above_range}
-use Rattle.rules.specs.Laws.SameNumbers.{same_turn, same_end, same_at_turn}
+use Rattle.rules.proofs.Laws.Facts.{Levels}
+use Rattle.rules.proofs.Laws.Tables.{SameForest, same_placed, standing_same, lev_rank, placed_rank, standing_levels}
+use Rattle.rules.proofs.Laws.Numbers.{above_range}
+use Rattle.rules.proofs.Laws.SameNumbers.{same_turn, same_end, same_at_turn}
 use Rattle.state.specs.Layout.{tables_in, forest_in, bare, above_in}
 use Rattle.state.specs.Test.{is_building, is_numbered}
 use Rattle.state.specs.Laws.Behind.{words_numbers}

@@ -6,7 +6,7 @@ use native.Mathlib.Omega.{arith}
 use borrow.Author.Rules.{rules}
 use Rattle.rules.specs.Forest.{up}
 use Rattle.rules.specs.Adopting.{parent_in}
-use Rattle.rules.specs.Laws.Up.{up_zero}
+use Rattle.rules.proofs.Laws.Up.{up_zero}
 use Rattle.adopting.specs.Laws.Adopt.{way_more, way_root, way_before, way_ends}
 use Rattle.adopting.proofs.parents.leads.Statement.{statement}
 use Rattle.adopting.proofs.parents.leads.Tie as tie

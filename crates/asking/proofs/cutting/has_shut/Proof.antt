@@ -4,7 +4,7 @@ use Prim.Native.Nat.{◌+◌, ◌-◌, ◌<◌}
 use mathlib.Core.Path.{◌≡◌, ap, ◌∙◌}
 use native.Mathlib.Omega.{arith}
 use Rattle.rules.specs.Numbers.{turn as turn_of, end as end_of, at_turn}
-use Rattle.rules.specs.Laws.Numbers.{turn_end}
+use Rattle.rules.proofs.Laws.Numbers.{turn_end}
 use Rattle.state.specs.Layout.{forest_in}
 use Rattle.testing.specs.Laws.Whole.{levels}
 use Rattle.asking.specs.Ranges.{Walked}

@@ -4,7 +4,7 @@ use Prim.Native.Nat.{ℕ, ◌-◌, ◌≤◌, ◌<◌}
 use mathlib.Core.Path.{◌≡◌, ap, ◌∙◌}
 use native.Mathlib.Omega.{arith}
 use Rattle.rules.specs.Numbers.{turn as turn_of, end as end_of}
-use Rattle.rules.specs.Laws.Numbers.{turn_in_lem}
+use Rattle.rules.proofs.Laws.Numbers.{turn_in_lem}
 use Rattle.state.specs.Layout.{forest_in, whose_in}
 use Rattle.testing.specs.Laws.Whole.{levels}
 use Rattle.asking.specs.Tree.{Top}

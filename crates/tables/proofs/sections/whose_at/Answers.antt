@@ -1,0 +1,6 @@
+-- `tables::sections::whose_at` meets its contract.
+-- Assumes nothing.
+use Rattle.tables.proofs.sections.whose_at.Goals as goal
+
+pub returns : goal.returns
+returns c = c.word_at.ensures
