@@ -1,1 +1,3 @@
-// No code: the rules of document 01 and what follows from them stand in specs/.
+#![tactic(auto)]
+
+// No code: the rules of document 01 stand in specs/, what follows from them in proofs/.

@@ -7,9 +7,8 @@ use Rattle.base.specs.Truth.{or_l, or_r, or_cases, eq_to_eqb}
 use Rattle.base.specs.Link.{Link}
 use Rattle.rules.specs.Links.{SameSet, linked, between, Joined, JoinedBy}
 use Rattle.rules.specs.Removal.{touches, without_link, without_fragment, Sole, Parts, Cut, Piece}
-use Rattle.rules.proofs.Laws.Chain.{one, wider}
+use Rattle.rules.proofs.Laws.Chain.{wider}
 use Rattle.rules.proofs.Laws.Links.{between_elim, between_turn, linked_turn, joined_turn, keep_told, keep_in, keep_out}
-use Rattle.rules.proofs.Laws.Up as Up
 use Rattle.rules.proofs.Laws.Removal.{Other, Off}
 
 -- The list without a link tells the other links; without a fragment, those that do not end there.
