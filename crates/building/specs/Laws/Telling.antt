@@ -320,7 +320,7 @@ module _ {n k count p a b : ℕ} {f h : List ℕ} (W : Within n k count p a b f 
   unfolding pick
   within_lost e z =
       let again : put_mark p t₁ ≡ t₁ = sym (store_mark (holds n count) f h p own.0) ∙ ap (λ x. held_tables n count x h) (rw z at (set-get_or f (3 * n + p) 0)) in
-      let same : (x : Bool) → pick x t₁ (put_mark p t₁) ≡ t₁ = λ x. elim x [ true ↦ refl | false ↦ again ] in
+      let same : (x : Bool) → pick x t₁ (put_mark p t₁) ≡ t₁ = λ x. elim x as (λ x. pick x t₁ (put_mark p t₁) ≡ t₁) [ true ↦ refl | false ↦ again ] in
       record {
         same = λ x. absurd (false≢true x);
         new = λ x. absurd (false≢true x);

@@ -138,7 +138,7 @@ module _ (n c p top note : ℕ) (f h₀ h : List ℕ) (W : Hanging n c p top not
   hung_size : size_of n (pieces n (hang top note (held_tables n c f h₀)).held) (get_or (pieces n (hang top note (held_tables n c f h₀)).held) top 0) ≡ size_of n (labels_in n f) p
   hung_size =
       let e : pieces n (hang top note (held_tables n c f h₀)).held ≡ labels_in n f = ap (pieces n) (hang_held top note (held_tables n c f h₀)) ∙ sym W.labels in
-      rw e (ap (size_of n (labels_in n f)) (sym (label_by n f refl top W.ready.top_in) ∙ W.top_of))
+      rw e (ap (size_of n (labels_in n f)) (sym (label_by n f refl top W.ready.top_in) ∙ W.top_of_lem))
 
   module _ (f₂ : List ℕ) (e₂ : f₂ ≡ hung_at n top note f₁) where
     hung_now : held_tables n c f₂ h₀ ≡ hang top note (held_tables n c f h₀)
@@ -241,7 +241,7 @@ module _ (n c p top note : ℕ) (f h₀ h : List ℕ) (W : Hanging n c p top not
   joined_member v l m =
       let j = joined_label n before.held (λ u x t. let (a, b, _) = W.arranged.among u x t in (a, b)) top v
       (subst (λ (g : List Link). JoinedBy (linked g) top v) (hang_held top note before) m) in
-      label_by n f W.labels v l ∙ sym j ∙ sym (label_by n f W.labels top W.ready.top_in) ∙ W.top_of
+      label_by n f W.labels v l ∙ sym j ∙ sym (label_by n f W.labels top W.ready.top_in) ∙ W.top_of_lem
 
   module _ (f₂ : List ℕ) (e₂ : f₂ ≡ hung_at n top note f₁) where
     pub lost_walkable : (size : ℕ) → size ≡ size_of n (labels_in n f) p → Walkable n c top (size - 1) f₂ h₀ h
@@ -305,7 +305,7 @@ module _ (n c p top note : ℕ) (f h₀ h : List ℕ) (W : Hanging n c p top not
               let (x, y) = C₅.others v l (inr (λ e. d (sym (label₄ v l) ∙ e))) in
               let (a, b) = low_words n c f₄ h₀ v l in
               let t = G₄.tables c h₀ in
-              let (q, r) = hang_other top note before v (λ e. d (ap (label_at n f) e ∙ W.top_of)) in
+              let (q, r) = hang_other top note before v (λ e. d (ap (label_at n f) e ∙ W.top_of_lem)) in
               let (u, w) = path_outside walked₃ (rank after deepest - rank after top) deepest walked₃.deepest_in (omega (arith, walked₃.deepest_most top here)) before v none in (
                 sym i ∙ x ∙ a ∙ ap (λ (t : Tables). parent_of t v) t ∙ walked₃.outside_parent v none ∙ q ∙ sym u,
                 sym j ∙ y ∙ b ∙ ap (λ (t : Tables). rank t v) t ∙ walked₃.outside_rank v none ∙ r ∙ sym w,

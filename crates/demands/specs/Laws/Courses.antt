@@ -21,7 +21,7 @@ use Rattle.state.specs.Laws.KeepsTables.{reads_settled}
 use Rattle.state.specs.declared.State.{State}
 use Rattle.state.specs.declared.Stage.{Stage}
 use Rattle.state.specs.declared.Stage.TheVariants.{Building, Built, Reading, Read}
-use Rattle.demands.specs.Run.{Origin, start, adopt, Call, take, close, open_reading, Moment, Answered, begun_by, opening, Run, begins, goes, calls, fragments, tables_at}
+use Rattle.demands.specs.Run.{Origin, start, adopt, Call, take, close, open_reading, Moment, Answered, next, begun_by, opening, Run, begins, goes, calls, fragments, tables_at}
 use Rattle.demands.specs.Step.{step, after}
 use Rattle.demands.specs.Course.{Adds, none, more, PassTells, AllTell, pass_calls, build_calls, read_calls}
 use Rattle.demands.specs.Laws.Steps.{take_off, take_on, close_off, whole_on, more_on, open_on}
@@ -33,7 +33,7 @@ use Rattle.demands.specs.Laws.Counts.{adopted_forest}
 holds_after : {o : Origin} {m : Moment} → Holds o m → (cs : List Call) → Holds o (after m cs)
 unfolding after
 holds_after H [] = H
-holds_after H (c ∷ cs) = holds_after (step_holds H c) cs
+holds_after {m = m} H (c ∷ cs) = holds_after {m = step m c} (step_holds H c) cs
 
 after_append : (m : Moment) (cs ds : List Call) → after m (cs ++ ds) ≡ after (after m cs) ds
 unfolding after
@@ -52,7 +52,7 @@ unfolding after moved
 takes_blocks H n e p q c [] g none = record { same_stage = refl; same_told = refl; telling_more = sym (append-nil _) }
 takes_blocks {o} {m} H n e p q c (block ∷ blocks) g (more {g = a} {h = b} x y) =
     let L = take_on m H.tested block c a (rw (p, q) x) in
-    let K = takes_blocks (step_holds H (take block)) n (e + length a) (ap (λ (s : State). s.n) L.state ∙ p) (ap (λ (s : State). s.entries) L.state ∙ ap (λ (i : ℕ). i + length a) q)
+    let K = takes_blocks {m = step m (take block)} (step_holds H (take block)) n (e + length a) (ap (λ (s : State). s.n) L.state ∙ p) (ap (λ (s : State). s.entries) L.state ∙ ap (λ (i : ℕ). i + length a) q)
     (rw L.state c) blocks b y in
     record {
       same_stage = K.same_stage ∙ ap (λ (s : State). s.stage) L.state;
@@ -145,7 +145,7 @@ module _ {n k : ℕ} {E : Links} where
   unfolding after build_calls
   passes_between B [] a = counted_as (omega arith) B
   passes_between {p} {m} B (blocks ∷ passes) (a, each) =
-      rw (after_append m (pass_calls blocks) (build_calls passes)) (counted_as {p = length passes + suc p} (omega arith) (passes_between (pass_between B blocks a) passes each))
+      rw (after_append m (pass_calls blocks) (build_calls passes)) (counted_as {p = length passes + suc p} (omega arith) (passes_between {p = suc p} (pass_between B blocks a) passes each))
 
   -- So many passes that Building is over.
   built_by : {p : ℕ} {m : Moment} → Between n k E p m → ceiling n k ≤ p → T (is_built m.state.stage)
@@ -180,7 +180,7 @@ unfolding calls after
 follow r [] = (r, sym (append-nil (calls r)))
 follow {o} {m} r (c ∷ cs) =
     let a = some_answer m c in
-    let (q, e) = subst (λ (x : Moment). (q : Run o (after x cs)) × (calls q ≡ (calls r ++ (c ∷ [])) ++ cs)) (next_step m c a) (follow (goes r c a) cs) in
+    let (q, e) = subst (λ (x : Moment). (q : Run o (after x cs)) × (calls q ≡ (calls r ++ (c ∷ [])) ++ cs)) (next_step m c a) (follow {m = next m c a} (goes r c a) cs) in
     (q, e ∙ append_assoc (calls r) (c ∷ []) cs)
 
 -- There is a run of any calls after a first one that is accepted.
