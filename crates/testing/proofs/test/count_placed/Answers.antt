@@ -1,7 +1,6 @@
 -- `testing::test::count_placed` meets its contract: after v turns those below v are counted.
 -- Assumes nothing.
 use Prim.Native.Nat.{◌-◌}
-use mathlib.Core.Logic.{⊎_elim}
 use mathlib.Core.Path.{◌≡◌, ap, ◌∙◌}
 use native.Mathlib.Omega.{arith}
 use Rattle.rules.specs.Search.{count}
@@ -9,6 +8,7 @@ use Rattle.rules.specs.Tables.{placed}
 use Rattle.state.specs.Layout.{forest_in}
 use Rattle.testing.specs.Laws.Fragment.{placed_none, placed_more, placed_same}
 use Rattle.testing.proofs.test.count_placed.Goals as goal
+use Rattle.testing.proofs.test.count_placed.Goals.{then-rank_at-ne0, else-rank_at-ne0}
 
 pub loop-v-init : goal.loop-v-init
 loop-v-init c = (omega arith, omega arith, placed_none _)
@@ -17,10 +17,10 @@ pub loop-v-preserved : goal.loop-v-preserved
 loop-v-preserved c =
     let l = c.loop-v in
     let r = c.rank_at.ensures.says in
-    ⊎_elim
-    (λ w. (omega arith, omega arith, w.1 ∙ placed_more _ l.v _ _ r l.invariant.2 w.0.taken))
-    (λ w. (omega arith, omega arith, w.1 ∙ placed_same _ l.v _ _ r l.invariant.2 w.0.left))
-    c.if-rank_at-ne0.branch
+    elim c.if-rank_at-ne0.branch [
+      | then-rank_at-ne0 w ↦ (omega arith, omega arith, w.sum-is ∙ placed_more _ l.v _ _ r l.invariant.2 w.if-rank_at-ne0.true)
+      | else-rank_at-ne0 w ↦ (omega arith, omega arith, w.sum-is ∙ placed_same _ l.v _ _ r l.invariant.2 w.if-rank_at-ne0.false)
+    ]
 
 pub returns : goal.returns
 returns c =
