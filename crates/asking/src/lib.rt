@@ -1,4 +1,6 @@
 // The questions about a forest that stands: parent, level, piece, sole and cut.
+#![tactic(auto)]
+
 mod ask;
 mod cutting;
 mod questions;

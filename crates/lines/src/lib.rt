@@ -1,4 +1,6 @@
 // The report of a state in Read: what is asked of all fragments at once, written line by line.
+#![tactic(auto)]
+
 ghost use Rattle.std.specs.Prelude.{◌≡◌, ◌+◌, ◌*◌, ◌<◌, ◌≤◌};
 ghost use Rattle.numbers.specs.Answers.{wrote};
 ghost use Rattle.state.specs.Layout.{forest_in};

@@ -1,4 +1,6 @@
 // Reading a list against a forest.
+#![tactic(auto)]
+
 mod closing;
 mod opening;
 mod taking;

@@ -1,0 +1,11 @@
+-- `asking::ranges::is_sole` meets its contract.
+-- Assumes nothing.
+use mathlib.Core.Path.{sym, ◌∙◌}
+use Rattle.asking.specs.Laws.Sole.{sole_first, sole_second}
+use Rattle.asking.proofs.ranges.is_sole.Goals as goal
+
+pub returns-then-sole_below : goal.returns-then-sole_below
+returns-then-sole_below c = sole_first _ _ _ _ (sym c.sole_below.ensures ∙ c.if-sole_below.taken)
+
+pub returns : goal.returns
+returns c = sole_second _ _ _ _ (sym c.sole_below.ensures ∙ c.if-sole_below.left) _ c.sole_below-2.ensures

@@ -1,0 +1,11 @@
+-- `asking::tree::told` meets its contract: far, or the smallest of the tree.
+-- Assumes nothing.
+use native.Mathlib.Omega.{arith}
+use Rattle.asking.specs.Laws.Piece.{told_far, told_near}
+use Rattle.asking.proofs.tree.told.Goals as goal
+
+pub returns-then-n-v : goal.returns-then-n-v
+returns-then-n-v c = let a = c.args in told_far a.n a.v _ (omega arith)
+
+pub returns : goal.returns
+returns c = let a = c.args in told_near a.n a.v _ (omega arith) _ c.smallest.ensures
