@@ -5,7 +5,7 @@ use Rattle.asking.specs.Laws.Sole.{sole_first, sole_second}
 use Rattle.asking.proofs.ranges.is_sole.Goals as goal
 
 pub returns-then-sole_below : goal.returns-then-sole_below
-returns-then-sole_below c = sole_first _ _ _ _ (sym c.sole_below.ensures ∙ c.if-sole_below.taken)
+returns-then-sole_below c = sole_first _ _ _ _ (sym c.sole_below.ensures ∙ c.if-sole_below.true)
 
 pub returns : goal.returns
-returns c = sole_second _ _ _ _ (sym c.sole_below.ensures ∙ c.if-sole_below.left) _ c.sole_below-2.ensures
+returns c = sole_second _ _ _ _ (sym c.sole_below.ensures ∙ c.if-sole_below.false) _ c.sole_below-2.ensures

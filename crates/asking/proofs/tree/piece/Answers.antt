@@ -17,10 +17,10 @@ use Rattle.asking.proofs.tree.piece.Goals as goal
 use Rattle.asking.proofs.tree.piece.Goals.{Else-refusal-ne0}
 
 -- What the head lent on.
-known : (c : Else-refusal-ne0) → Lent c.args.s c.args.frag.now c.head-refusal.new.1.1.0
+known : (c : Else-refusal-ne0) → Lent c.args.s c.args.frag.now c.head-refusal.new.frag
 known c = lent _ _ _ _ _ (ap not c.is_building.ensures) c.head-refusal.ensures.0 _ c.head-refusal.ensures.1 (omega arith)
 
-answered : (c : Else-refusal-ne0) (v : ℕ) → pick (leb c.args.s.n v) (refuses 4 0) (gives (piece c.args.s.n (forest_in c.args.s.n c.head-refusal.new.1.1.0) v)) ≡ piece_call c.args.s c.args.frag.now c.args.held.now v
+answered : (c : Else-refusal-ne0) (v : ℕ) → pick (leb c.args.s.n v) (refuses 4 0) (gives (piece c.args.s.n (forest_in c.args.s.n c.head-refusal.new.frag) v)) ≡ piece_call c.args.s c.args.frag.now c.args.held.now v
 answered c = piece_told _ _ _ _ _ (ap not c.is_building.ensures) c.head-refusal.ensures.0 _ c.head-refusal.ensures.1 (omega arith)
 
 pub returns-then-refusal-ne0 : goal.returns-then-refusal-ne0
@@ -29,18 +29,18 @@ returns-then-refusal-ne0 c =
     (one_refused asks _ _ _ _ (head_is asks refl _ _ _ _ _ (ap not c.is_building.ensures) c.head-refusal.ensures.0) _ _ (λ e. omega arith), head_same _ _ _ _ _ (ap not c.is_building.ensures) c.head-refusal.ensures.0 _ c.head-refusal.ensures.1 (λ e. omega arith))
 
 pub told-answer-requires : goal.told-answer-requires
-told-answer-requires c = (known (goal.at.told-answer-requires c).After-slice_known-2-1).numbers
+told-answer-requires c = (known (goal.at.told-answer-requires c).Else-refusal-ne0).numbers
 
 pub returns-then-not-is_built : goal.returns-then-not-is_built
 returns-then-not-is_built c =
-    (c.told-answer.ensures ∙ answered (goal.at.returns-then-not-is_built c).After-slice_known-2-1 _, (known (goal.at.returns-then-not-is_built c).After-slice_known-2-1).later (sym c.is_built.ensures ∙ c.if-not-is_built.true))
+    (c.told-answer.ensures ∙ answered (goal.at.returns-then-not-is_built c).Else-refusal-ne0 _, (known (goal.at.returns-then-not-is_built c).Else-refusal-ne0).later (sym c.is_built.ensures ∙ c.if-not-is_built.true))
 
 pub overflow_mul-n : goal.overflow_mul-n
-overflow_mul-n c = omega (arith, (known (goal.at.overflow_mul-n c).After-slice_known-2-1).numbers.whole.few)
+overflow_mul-n c = omega (arith, (known (goal.at.overflow_mul-n c).Else-refusal-ne0).numbers.whole.few)
 
 pub overflow_mul-n-2 : goal.overflow_mul-n-2
-overflow_mul-n-2 c = omega (arith, (known (goal.at.overflow_mul-n-2 c).After-slice_known-2-1).numbers.whole.few)
+overflow_mul-n-2 c = omega (arith, (known (goal.at.overflow_mul-n-2 c).Else-refusal-ne0).numbers.whole.few)
 
 pub returns : goal.returns
 returns c =
-    (c.told-answer.ensures ∙ answered (goal.at.returns c).After-slice_known-2-1 _, c.clear.ensures ∙ (known (goal.at.returns c).After-slice_known-2-1).back (sym c.is_built.ensures ∙ c.if-not-is_built.false))
+    (c.told-answer.ensures ∙ answered (goal.at.returns c).Else-refusal-ne0 _, c.clear.ensures ∙ (known (goal.at.returns c).Else-refusal-ne0).back (sym c.is_built.ensures ∙ c.if-not-is_built.false))

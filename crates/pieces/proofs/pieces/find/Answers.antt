@@ -45,7 +45,7 @@ pub overflow_cast-u : goal.overflow_cast-u
 overflow_cast-u c =
     let l = c.loop-n.invariant in
     let a = sym (c.if-not-leads_on.false) ∙ c.leads_on.ensures in
-    omega (arith, going_less l a, going_down l a (sym (c.if-not-leads_on-2.false) ∙ c.leads_on-in-loop-n.ensures), l.in-range, l.few-fragments)
+    omega (arith, going_less l a, going_down l a (sym (c.if-not-leads_on-2.false) ∙ c.leads_on-in-loop-n.ensures), l.in_range, l.few_fragments)
 
 pub overflow_sub-u : goal.overflow_sub-u
 overflow_sub-u c = (leads_known _ _ (sym (c.if-not-leads_on-2.false) ∙ c.leads_on-in-loop-n.ensures)).0

@@ -15,7 +15,7 @@ bind-requires c =
     joined_members _ _ _ _ (sym (c.if-not-is_in.false) ∙ c.is_in.ensures)
     (sym (c.if-not-is_in-2.false) ∙ c.is_in-2.ensures)
     _ _ _ _ c.find-p.ensures c.find-q.ensures
-    c.find-p.auto.0 (c.find-q.auto.0 ∙ c.find-p.auto.0)
+    c.find-p.auto.frag (c.find-q.auto.frag ∙ c.find-p.auto.frag)
 
 pub returns : goal.returns
 returns c =
