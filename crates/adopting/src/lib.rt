@@ -1,4 +1,6 @@
 // Adopting a forest made elsewhere.
+#![tactic(auto)]
+
 mod adopting;
 mod parents;
 

@@ -1,4 +1,6 @@
 // The test of the held links but for the quota of their pieces: their ends, and none twice.
+#![tactic(auto)]
+
 mod ends;
 mod refusals;
 mod twice;

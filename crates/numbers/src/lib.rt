@@ -11,7 +11,7 @@ ghost use Rattle.numbers.specs.Writing.{all_groups};
 const VALUE_MOST: u32 = 2097151;
 
 // A refusal: document 01's number of it, and its place.
-#[derive(Drop)]
+#[derive(Clone, Copy)]
 pub struct Refusal {
     pub number: u32,
     pub place: usize,

@@ -15,7 +15,7 @@ mod words;
 pub use stages::{is_building, is_built, is_read, is_reading, may_open};
 pub use words::{clear, wide, zeros};
 
-#[derive(Drop)]
+#[derive(Clone, Copy)]
 pub enum Stage {
     Building,
     Built,
@@ -23,7 +23,7 @@ pub enum Stage {
     Read,
 }
 
-#[derive(Drop)]
+#[derive(Clone, Copy)]
 pub struct State {
     // the number of fragments
     pub n: usize,

@@ -17,7 +17,7 @@ use parts::{Fed, Opened};
 const LINK: usize = 6;
 
 // Where the work stands: nothing was read; a pass begins, and the head of the file is to come; in the links; over.
-#[derive(Drop)]
+#[derive(Clone, Copy)]
 pub enum Step {
     First,
     Head,
@@ -25,7 +25,7 @@ pub enum Step {
     Over,
 }
 
-#[derive(Drop)]
+#[derive(Clone, Copy)]
 pub struct Telling {
     pub state: State,
     pub step: Step,
@@ -36,7 +36,7 @@ pub struct Telling {
 }
 
 // What reading answered: so many bytes more, the end of the file, that it failed, or that there is no such file.
-#[derive(Drop)]
+#[derive(Clone, Copy)]
 pub enum Heard {
     Bytes(usize),
     End,

@@ -1,0 +1,15 @@
+-- `reaches::judge::mark_cut` meets its contract.
+-- Assumes nothing.
+use native.Mathlib.Omega.{arith}
+use lib.ListN.{length-set}
+use Rattle.reaches.specs.Laws.Judged.{cut_none, cut_some}
+use Rattle.reaches.proofs.judge.mark_cut.Goals as goal
+
+pub returns-then-p-c : goal.returns-then-p-c
+returns-then-p-c c = cut_none _ _ _ _ c.parent_in-p.ensures.0 (omega arith)
+
+pub bounds-frag-n-2 : goal.bounds-frag-n-2
+bounds-frag-n-2 c = simp length-set (omega arith)
+
+pub returns : goal.returns
+returns c = cut_some _ _ _ _ c.parent_in-p.ensures.0 (omega arith) _ c.cut_word.ensures

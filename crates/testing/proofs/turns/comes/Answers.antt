@@ -1,0 +1,22 @@
+-- `testing::turns::comes` meets its contract: one law for each answer.
+-- Assumes nothing.
+use native.Mathlib.Omega.{arith}
+use Rattle.testing.specs.Laws.Turns.{comes_late, comes_other, comes_narrow, comes_alone, comes_first}
+use Rattle.testing.proofs.turns.comes.Goals as goal
+
+pub returns-then-n-turn : goal.returns-then-n-turn
+returns-then-n-turn c = comes_late _ _ _ _ _ c.turn_at-turn.ensures.says (omega arith)
+
+pub returns-then-whose_at-v : goal.returns-then-whose_at-v
+returns-then-whose_at-v c = comes_other _ _ _ _ _ c.turn_at-turn.ensures.says (omega arith) _ c.whose_at.ensures.says (omega arith)
+
+pub returns-then-end-turn : goal.returns-then-end-turn
+returns-then-end-turn c = comes_narrow _ _ _ _ _ c.turn_at-turn.ensures.says (omega arith) _ c.whose_at.ensures.says (omega arith) _ c.end_at-end.ensures.says (omega arith)
+
+pub returns-then-end-turn-2 : goal.returns-then-end-turn-2
+returns-then-end-turn-2 c =
+    comes_alone _ _ _ _ _ c.turn_at-turn.ensures.says (omega arith) _ c.whose_at.ensures.says (omega arith) _ c.end_at-end.ensures.says (omega arith) (omega arith)
+
+pub returns : goal.returns
+returns c =
+    comes_first _ _ _ _ _ c.turn_at-turn.ensures.says (omega arith) _ c.whose_at.ensures.says (omega arith) _ c.end_at-end.ensures.says (omega arith) (omega arith) _ c.is_under.ensures

@@ -1,0 +1,14 @@
+-- `testing::turns::is_under` meets its contract: one law for each answer.
+-- Assumes nothing.
+use native.Mathlib.Omega.{arith}
+use Rattle.testing.specs.Laws.Turns.{under_late, under_none, under_so}
+use Rattle.testing.proofs.turns.is_under.Goals as goal
+
+pub returns-then-n-i : goal.returns-then-n-i
+returns-then-n-i c = under_late _ _ _ _ _ (omega arith)
+
+pub returns-then-n-w : goal.returns-then-n-w
+returns-then-n-w c = under_none _ _ _ _ _ (omega arith) _ c.whose_at-w.ensures.says (omega arith)
+
+pub returns : goal.returns
+returns c = under_so _ _ _ _ _ (omega arith) _ c.whose_at-w.ensures.says (omega arith) _ c.parent_at.ensures.says
