@@ -15,7 +15,7 @@ use Rattle.forest.proofs.adopt.Reads as adopt-reads
 use Rattle.forest.specs.contracts.take as take
 use Rattle.forest.proofs.take.Kinds as take-kinds
 use Rattle.forest.proofs.take.Reads as take-reads
-use Rattle.forest.proofs.open_reading as open-reading
+use Rattle.forest.specs.contracts.open_reading as open-reading
 use Rattle.forest.proofs.open_reading.Kinds as open-reading-kinds
 use Rattle.forest.proofs.open_reading.Reads as open-reading-reads
 use Rattle.forest.specs.contracts.close as close

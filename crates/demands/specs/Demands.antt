@@ -1,5 +1,5 @@
 -- Demands 1 to 3 of the letter, of what the functions of `forest` answer and leave, to be read alone. An answer is one that meets the promise of its function
--- (Promises.antt; Contracts.antt: every answer of the code does), a run is calls with their answers (Run.antt). Behind each theorem stands the instance of P1 to
+-- (Promises.antt; Calls.antt: every answer of the code does), a run is calls with their answers (Run.antt). Behind each theorem stands the instance of P1 to
 -- P10 that meets its premises (Laws.Met). That P1 to P10 themselves hold of the calls, as one table, is Known.known-calls.
 -- Assumes nothing.
 use Rattle.std.specs.Prelude.{ℕ, ◌+◌, ◌≤◌, ◌<◌, ◌≡◌, refl, List, ◌++◌, ◌⊎◌, ◌↔◌, T, length, drop}

@@ -1,5 +1,5 @@
 -- What a call answered, and how it left the tables: an answer and tables that meet the promise of the function, which stands here as in its contract. (That this
--- is what the checker reads in the contracts of `State::start` and of the functions of `forest` is Contracts.antt.) Definitions only.
+-- is what the checker reads in the contracts of `State::start` and of the functions of `forest` is Calls.antt.) Definitions only.
 -- Assumes nothing.
 use Rattle.std.specs.Prelude.{ℕ, ◌≡◌, Bool, true, false, List, eqb}
 use Rattle.base.specs.Answer.{Answer}
