@@ -4,7 +4,7 @@ ghost use Rattle.rules.specs.Forest.{depth};
 ghost use Rattle.rules.specs.Adopting.{parent_in};
 ghost use Rattle.state.specs.Adopt.{adopt_refusal, adopt_call};
 ghost use Rattle.state.specs.Answers.{begun_told};
-ghost use Rattle.state.specs.Laws.Tests.{Room};
+ghost use Rattle.state.proofs.Laws.Tests.{Room};
 ghost use Rattle.adopting.specs.Adopt.{Rooted, Ranked, Placed};
 
 use crate::parents::may_adopt;

@@ -8,7 +8,7 @@ use Rattle.state.specs.Adopt.{adopt_call}
 use Rattle.state.specs.Take.{take_call}
 use Rattle.state.specs.Close.{open_call, close_call}
 use Rattle.state.specs.Ask.{parent_call, level_call, piece_call, cut_call, sole_call}
-use Rattle.state.specs.Laws.KeepsBegun.{start_keeps, adopt_keeps}
+use Rattle.state.proofs.Laws.KeepsBegun.{start_keeps, adopt_keeps}
 use Rattle.c_words.specs.State.{state_size, word_most, Holds, mark_word}
 use Rattle.c_calls.specs.Call.{number_of, reply_of, nothing, itself, ending_word, c_start, c_adopt, c_open, c_take, c_close, c_parent, c_level, c_piece, c_cut, c_sole}
 use Rattle.telling.specs.Tell.{beginning, tell_call}

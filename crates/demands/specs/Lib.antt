@@ -5,5 +5,3 @@ pub mod Step
 pub mod Course
 pub mod Claims
 pub mod Known
-pub mod Laws
-pub mod Demands

@@ -7,7 +7,7 @@ use Rattle.std.proofs.Math.ListN.{length-drop}
 use Rattle.std.proofs.Math.Seq.{take-append_seam, length-take-le}
 use Rattle.base.specs.Pick.{pick_true, pick_false}
 use Rattle.numbers.specs.Number.{put}
-use Rattle.numbers.specs.Laws.Groups.{drop_take}
+use Rattle.numbers.proofs.Laws.Groups.{drop_take}
 use Rattle.lists.specs.List.{cut_block}
 use Rattle.lists.specs.Theorems.{cut_inside}
 use Rattle.parts.specs.Parts.{carried, tellable}

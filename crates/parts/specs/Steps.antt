@@ -9,7 +9,7 @@ use Rattle.std.proofs.Math.Seq.{length-sets, length-take-le}
 use Rattle.base.specs.Pick.{pick_true, pick_false, tests}
 use Rattle.base.specs.Answer.{gives, refuses}
 use Rattle.numbers.specs.Number.{Numeral, read_number, put}
-use Rattle.numbers.specs.Theorems.{number_within}
+use Rattle.numbers.proofs.Theorems.{number_within}
 use Rattle.lists.specs.List.{cut_block}
 use Rattle.lists.specs.Theorems.{cut_inside}
 use Rattle.state.specs.Call.{Left}

@@ -1,6 +1,4 @@
 pub mod Printed
 pub mod Claims
 pub mod Run
-pub mod Laws
-pub mod Theorems
 pub mod Known

@@ -8,6 +8,3 @@ pub mod Close
 pub mod Adopt
 pub mod Ask
 pub mod Answers
-pub mod Laws
-pub mod Theorems
-pub mod Unique

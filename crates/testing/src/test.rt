@@ -5,7 +5,7 @@ ghost use Rattle.rules.specs.Tables.{placed as is_placed};
 ghost use Rattle.state.specs.Layout.{forest_in};
 ghost use Rattle.state.specs.Call.{fragments_most, room_most};
 ghost use Rattle.state.specs.Test.{is_numbered, stands_at, clear_at, asked as askedIf};
-ghost use Rattle.state.specs.Laws.Bounds.{Bounds};
+ghost use Rattle.state.proofs.Laws.Bounds.{Bounds};
 ghost use Rattle.testing.specs.Test.{mark_at, waits_at, noted_at, fragment_fits, counts_hold, stage_holds, rest_fits, sound_but_links};
 
 use crate::turns::numbers_fit;

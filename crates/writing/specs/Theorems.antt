@@ -6,7 +6,7 @@ use Rattle.base.specs.Pick.{tests}
 use Rattle.base.specs.Answer.{gives}
 use Rattle.base.specs.Link.{Link}
 use Rattle.numbers.specs.Number.{written_number}
-use Rattle.numbers.specs.Theorems.{number_written}
+use Rattle.numbers.proofs.Theorems.{number_written}
 use Rattle.lists.specs.List.{entries_most, fragments_most, and_then, no_size, sized, block_links, file_links, written_links}
 use Rattle.lists.specs.Words.{Sound}
 use Rattle.lists.specs.Laws.Link.{sized_gives}

@@ -3,7 +3,7 @@
 use Rattle.std.specs.Prelude.{ℕ, List, ◌≡◌}
 use Rattle.std.proofs.Common.{sym, ◌∙◌}
 use Rattle.numbers.specs.Answers.{wrote}
-use Rattle.numbers.specs.Unique.{wrote_once}
+use Rattle.numbers.proofs.Unique.{wrote_once}
 use Rattle.numbers.specs.declared.Written.{Written}
 use Rattle.writing.specs.Write.{write_list}
 

@@ -22,13 +22,13 @@ use Rattle.state.specs.Test.{all_zero}
 use Rattle.state.specs.Call.{bounds_refusal}
 use Rattle.state.specs.Adopt.{adopted_state, adopt_refusal, adopt_call}
 use Rattle.state.specs.Answers.{begun_told}
-use Rattle.state.specs.Laws.Bounds.{Bounds, bounds_known}
-use Rattle.state.specs.Laws.Lists.{all_none, zeros_pass}
-use Rattle.state.specs.Laws.Clear.{wiped_length, wiped_front, wiped_past, wiped_within}
-use Rattle.state.specs.Laws.Tests.{every_more, every_fails}
-use Rattle.state.specs.Laws.Layout.{tables_are, section_length, section_at}
-use Rattle.state.specs.Laws.Behind.{plain_rest}
-use Rattle.state.specs.Laws.Lay.{frag_laid, held_laid}
+use Rattle.state.proofs.Laws.Bounds.{Bounds, bounds_known}
+use Rattle.state.proofs.Laws.Lists.{all_none, zeros_pass}
+use Rattle.state.proofs.Laws.Clear.{wiped_length, wiped_front, wiped_past, wiped_within}
+use Rattle.state.proofs.Laws.Tests.{every_more, every_fails}
+use Rattle.state.proofs.Laws.Layout.{tables_are, section_length, section_at}
+use Rattle.state.proofs.Laws.Behind.{plain_rest}
+use Rattle.state.proofs.Laws.Lay.{frag_laid, held_laid}
 use Rattle.state.specs.declared.State.{State}
 use Rattle.state.specs.declared.Stage.TheVariants.{Built}
 use Rattle.state.specs.declared.Started.TheVariants.{Ready, Refused}

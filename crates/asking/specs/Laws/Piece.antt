@@ -12,9 +12,9 @@ use Rattle.rules.specs.Numbers.{turn, end, at_turn}
 use Rattle.state.specs.Layout.{wiped, forest_in}
 use Rattle.state.specs.Ask.{asks, ask_one, piece_call}
 use Rattle.state.specs.Test.{is_built, is_numbered, all_zero}
-use Rattle.state.specs.Laws.Layout.{section_at}
-use Rattle.state.specs.Laws.Lists.{drop_take, zeros_pass, all_none}
-use Rattle.state.specs.Laws.Clear.{wiped_back}
+use Rattle.state.proofs.Laws.Layout.{section_at}
+use Rattle.state.proofs.Laws.Lists.{drop_take, zeros_pass, all_none}
+use Rattle.state.proofs.Laws.Clear.{wiped_back}
 use Rattle.state.specs.declared.State.{State}
 use Rattle.state.specs.declared.Stage.{Stage}
 use Rattle.state.specs.declared.Stage.TheVariants.{Building, Built, Reading, Read}

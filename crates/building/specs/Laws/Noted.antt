@@ -16,9 +16,9 @@ use Rattle.lists.specs.Laws.Link.{Accepted, link_told_lem}
 use Rattle.rules.specs.Links.{linked}
 use Rattle.rules.proofs.Laws.Links.{between_here, linked_nil, linked_turn, append_left, snoc_cases, snoc_last}
 use Rattle.state.specs.Layout.{wiped, words, link_in, word_of, held_links}
-use Rattle.state.specs.Laws.Words.{link_word_lem, word_small, word_some}
+use Rattle.state.proofs.Laws.Words.{link_word_lem, word_small, word_some}
 use Rattle.state.specs.Call.{fragments_most}
-use Rattle.state.specs.Laws.Clear.{wiped_length, wiped_front, wiped_past, wiped_within}
+use Rattle.state.proofs.Laws.Clear.{wiped_length, wiped_front, wiped_past, wiped_within}
 use Rattle.index.specs.Index.{flag, Place, In}
 use Rattle.building.specs.Noted.{Ends, slot_at, link_at, whole_at, Whole, Noted, Apart, Askable, Flags, Learnable, Flaggable, Stands, Fresh, Matching, Unnoted}
 use Rattle.index.specs.Laws.Index.{indexed_none, indexed_same, not_noted, is_noted, one_slot, set_indexed}

@@ -17,11 +17,11 @@ use Rattle.state.specs.Test.{is_building, all_zero, ends_fit}
 use Rattle.state.specs.Call.{head_refusal, headed, moved, leaves}
 use Rattle.state.specs.Take.{tell, taken, take_in}
 use Rattle.state.specs.Answers.{taken_told}
-use Rattle.state.specs.Laws.Lists.{drop_take}
-use Rattle.state.specs.Laws.Layout.{tables_state}
-use Rattle.state.specs.Laws.Behind.{rest, plain_rest, plain_zero}
-use Rattle.state.specs.Laws.Lay.{frag_laid, held_laid}
-use Rattle.state.specs.Laws.Sound.{underway}
+use Rattle.state.proofs.Laws.Lists.{drop_take}
+use Rattle.state.proofs.Laws.Layout.{tables_state}
+use Rattle.state.proofs.Laws.Behind.{rest, plain_rest, plain_zero}
+use Rattle.state.proofs.Laws.Lay.{frag_laid, held_laid}
+use Rattle.state.proofs.Laws.Sound.{underway}
 use Rattle.state.specs.declared.State.{State}
 use Rattle.state.specs.declared.Stage.TheVariants.{Building}
 use Rattle.state.specs.declared.Taken.TheVariants.{On, Refused}

@@ -30,10 +30,10 @@ use Rattle.rules.proofs.Laws.Quota.{held_few}
 use Rattle.rules.proofs.Laws.Step.{building_kept}
 use Rattle.state.specs.Layout.{wiped, words, stored, word_of, link_word, tables_in, forest_in, held_links}
 use Rattle.state.specs.Test.{all_zero}
-use Rattle.state.specs.Laws.Clear.{wiped_length, wiped_front, wiped_rest, wiped_past}
-use Rattle.state.specs.Laws.Lists.{zeros_pass}
-use Rattle.state.specs.Laws.Words.{link_word_lem}
-use Rattle.state.specs.Laws.Layout.{store_note, store_mark, store_held, tables_frag_same}
+use Rattle.state.proofs.Laws.Clear.{wiped_length, wiped_front, wiped_rest, wiped_past}
+use Rattle.state.proofs.Laws.Lists.{zeros_pass}
+use Rattle.state.proofs.Laws.Words.{link_word_lem}
+use Rattle.state.proofs.Laws.Layout.{store_note, store_mark, store_held, tables_frag_same}
 use Rattle.pieces.specs.Joined.{found, joined}
 use Rattle.pieces.specs.Pieces.{held_most, Gathered, Finds, Gatherable, Gathers}
 use Rattle.building.specs.Noted.{Ends, Noted, Apart, Askable, Answers, Learnable, Unnoted}

@@ -12,9 +12,9 @@ use Rattle.lists.specs.Laws.Link.{never_both}
 use Rattle.state.specs.Call.{Begun, Left, leaves}
 use Rattle.state.specs.Take.{takes, taken, take_in, take_call}
 use Rattle.state.specs.Close.{Ending, opens, open_call, close_call}
-use Rattle.state.specs.Laws.Keeps.{headed_all}
-use Rattle.state.specs.Laws.KeepsCalls.{Upholds, take_keeps, open_keeps, close_keeps}
-use Rattle.state.specs.Laws.KeepsBegun.{Begins as Keeps}
+use Rattle.state.proofs.Laws.Keeps.{headed_all}
+use Rattle.state.proofs.Laws.KeepsCalls.{Upholds, take_keeps, open_keeps, close_keeps}
+use Rattle.state.proofs.Laws.KeepsBegun.{Begins as Keeps}
 use Rattle.c_words.specs.State.{state_size, state_in, Holds}
 use Rattle.c_words.specs.Answers.{Reply}
 use Rattle.c_words.specs.Laws.Holds.{passed_holds}

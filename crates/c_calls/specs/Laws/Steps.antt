@@ -8,7 +8,7 @@ use Rattle.state.specs.Call.{Begun, Left, bounds_refusal, headed, leaves}
 use Rattle.state.specs.Answers.{begun_told, taken_told, closed_told, asked_told, judged_told}
 use Rattle.state.specs.Take.{takes}
 use Rattle.state.specs.Close.{Ending, end_building, end_reading, close_in, close_call}
-use Rattle.state.specs.Unique.{closed_decided}
+use Rattle.state.proofs.Unique.{closed_decided}
 use Rattle.c_words.specs.State.{state_in, mark_word}
 use Rattle.c_words.specs.Answers.{Reply, Ended, reply, begun_end, opened_end, taken_end, closed_end, asked_reply, judged_reply}
 use Rattle.c_calls.specs.Call.{Returned, returned, reply_of, number_of, nothing, itself, short_or, begun_words, begun, short_refusal, begins, left_words, left, on_state, closed_words, closed, asks, c_close}

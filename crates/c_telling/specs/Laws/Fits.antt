@@ -10,7 +10,7 @@ use Rattle.lists.specs.Laws.Link.{never_both}
 use Rattle.state.specs.Call.{Begun, Left}
 use Rattle.state.specs.Take.{take_call}
 use Rattle.state.specs.Close.{Ending, more, whole, read, open_call, close_call}
-use Rattle.state.specs.Laws.KeepsCalls.{Upholds, take_keeps, open_keeps, close_keeps}
+use Rattle.state.proofs.Laws.KeepsCalls.{Upholds, take_keeps, open_keeps, close_keeps}
 use Rattle.state.specs.declared.State.{State}
 use Rattle.c_words.specs.State.{Fits}
 use Rattle.c_words.specs.Laws.Holds.{passed_fits}

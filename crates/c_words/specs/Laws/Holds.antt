@@ -7,7 +7,7 @@ use Rattle.rules.specs.Tables.{placed}
 use Rattle.rules.proofs.Laws.Search.{count_le}
 use Rattle.state.specs.Layout.{tables_in}
 use Rattle.state.specs.Call.{fragments_most, room_most}
-use Rattle.state.specs.Laws.Keeps.{Passes, head_passes}
+use Rattle.state.proofs.Laws.Keeps.{Passes, head_passes}
 use Rattle.state.specs.declared.State.{State}
 use Rattle.state.specs.declared.Stage.{Stage}
 use Rattle.state.specs.declared.Stage.TheVariants.{Building, Built, Reading, Read}

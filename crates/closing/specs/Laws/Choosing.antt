@@ -14,7 +14,7 @@ use Rattle.rules.specs.Building.{member, size_of, better, noted, lost, top_of}
 use Rattle.rules.proofs.Laws.Pieces.{member_intro, member_elim}
 use Rattle.rules.proofs.Laws.Search.{count_le, count_zero, count_yes, count_no, some_count, first_le, first_passes, first_least, some_intro, some_elim}
 use Rattle.state.specs.Layout.{section, forest_in, bare}
-use Rattle.state.specs.Laws.Layout.{section_at, note_word, mark_word_lem}
+use Rattle.state.proofs.Laws.Layout.{section_at, note_word, mark_word_lem}
 use Rattle.closing.specs.Closing.{labels_in, label_at, Follows, Chained, first_noted, top_by}
 use Rattle.closing.specs.Laws.Members.{Along, none_between, skip}
 

@@ -21,12 +21,12 @@ use Rattle.state.specs.Test.{is_building, is_numbered}
 use Rattle.state.specs.Call.{head_refusal, headed, moved, leaves}
 use Rattle.state.specs.Close.{more, whole, end_building, close_in}
 use Rattle.state.specs.Answers.{closed_told}
-use Rattle.state.specs.Laws.Clear.{wiped_is}
-use Rattle.state.specs.Laws.Lists.{zeros, zeros_between}
-use Rattle.state.specs.Laws.Layout.{tables_state}
-use Rattle.state.specs.Laws.Behind.{plain_zero}
-use Rattle.state.specs.Laws.Lay.{frag_plain, tables_laid}
-use Rattle.state.specs.Laws.Sound.{underway}
+use Rattle.state.proofs.Laws.Clear.{wiped_is}
+use Rattle.state.proofs.Laws.Lists.{zeros, zeros_between}
+use Rattle.state.proofs.Laws.Layout.{tables_state}
+use Rattle.state.proofs.Laws.Behind.{plain_zero}
+use Rattle.state.proofs.Laws.Lay.{frag_plain, tables_laid}
+use Rattle.state.proofs.Laws.Sound.{underway}
 use Rattle.state.specs.declared.State.{State}
 use Rattle.state.specs.declared.Stage.{Stage}
 use Rattle.state.specs.declared.Stage.TheVariants.{Building, Built}

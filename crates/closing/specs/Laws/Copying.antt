@@ -14,7 +14,7 @@ use Rattle.rules.specs.Building.{place_path}
 use Rattle.rules.proofs.Laws.Facts.{Standing}
 use Rattle.rules.proofs.Laws.Kept.{parent_placed}
 use Rattle.state.specs.Layout.{section, tables_in, forest_in}
-use Rattle.state.specs.Laws.Layout.{section_set, section_before, section_after, parent_word, level_word}
+use Rattle.state.proofs.Laws.Layout.{section_set, section_before, section_after, parent_word, level_word}
 use Rattle.closing.specs.Closing.{label_at, Follows, Chained, Copyable, copied_at, Copies, saved_at, Beside, Climbable, Climbs}
 use Rattle.closing.specs.Walk.{Wide}
 use Rattle.pieces.specs.Gathered.{held_tables, holds}

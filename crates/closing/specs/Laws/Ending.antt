@@ -15,11 +15,11 @@ use Rattle.rules.proofs.Laws.Pieces.{Inside, label_in, pieces_length}
 use Rattle.rules.proofs.Laws.Tables.{placed_rank, rank_placed}
 use Rattle.state.specs.Layout.{held_links, wiped, words, stored, radix, section, link_in, tables_in, forest_in, frag_of, bare}
 use Rattle.state.specs.Test.{ends_fit, none_twice}
-use Rattle.state.specs.Laws.Clear.{wiped_is, wiped_length, wiped_before, wiped_within, wiped_behind}
-use Rattle.state.specs.Laws.Held.{once_made}
-use Rattle.state.specs.Laws.Layout.{section_length, section_at, level_word}
-use Rattle.state.specs.Laws.Lists.{zeros}
-use Rattle.state.specs.Laws.Behind.{behind_plain}
+use Rattle.state.proofs.Laws.Clear.{wiped_is, wiped_length, wiped_before, wiped_within, wiped_behind}
+use Rattle.state.proofs.Laws.Held.{once_made}
+use Rattle.state.proofs.Laws.Layout.{section_length, section_at, level_word}
+use Rattle.state.proofs.Laws.Lists.{zeros}
+use Rattle.state.proofs.Laws.Behind.{behind_plain}
 use Rattle.state.specs.declared.Stage.TheVariants.{Building}
 use Rattle.testing.specs.Laid.{Laid}
 use Rattle.testing.specs.Laws.Only.{drop_by}

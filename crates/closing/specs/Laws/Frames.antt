@@ -3,7 +3,7 @@
 use Rattle.std.specs.Prelude.{ℕ, suc, ◌+◌, ◌-◌, ◌*◌, ◌≤◌, ◌<◌, ◌≡◌, refl, List, length, get_or, drop}
 use Rattle.std.proofs.Common.{sym, ◌∙◌, arith, mul-le-mul_right, ext_get_or, get_or-drop}
 use Rattle.state.specs.Layout.{section}
-use Rattle.state.specs.Laws.Layout.{section_length, section_at}
+use Rattle.state.proofs.Laws.Layout.{section_length, section_at}
 use Rattle.closing.specs.Arranged.{Arranged, Frame}
 use Rattle.closing.specs.Closing.{Chained, Beside}
 use Rattle.closing.specs.Walk.{Wide}

@@ -17,7 +17,7 @@ use Rattle.rules.proofs.Laws.Partial.{Of, Closing}
 use Rattle.rules.proofs.Laws.Close.{lost_same, not_placed, ready_at, closing}
 use Rattle.rules.proofs.Laws.CloseAny.{shown, learnt_shown}
 use Rattle.state.specs.Layout.{tables_in, forest_in, bare}
-use Rattle.state.specs.Laws.Layout.{level_word}
+use Rattle.state.proofs.Laws.Layout.{level_word}
 use Rattle.closing.specs.Closing.{labels_in, label_at, Chained, top_by, due_at, Beside, Hanging, PathLeaves, WholeLeaves, Due, PieceLeaves, Closable, AllLeaves}
 use Rattle.pieces.specs.Gathered.{held_tables}
 use Rattle.closing.specs.Walk.{Wide}

@@ -19,7 +19,7 @@ use Rattle.rules.proofs.Laws.Pieces.{joined_label, member_intro}
 use Rattle.rules.proofs.Laws.Walk.{walk}
 use Rattle.rules.proofs.Laws.Tables.{rank_most, parent_of_place_same, parent_of_place_other, rank_place_same, rank_place_other, place_length, place_held}
 use Rattle.state.specs.Layout.{section, tables_in}
-use Rattle.state.specs.Laws.Layout.{section_length, section_at, tables_are, parent_word, level_word}
+use Rattle.state.proofs.Laws.Layout.{section_length, section_at, tables_are, parent_word, level_word}
 use Rattle.closing.specs.Arranged.{Frame}
 use Rattle.closing.specs.Closing.{labels_in, label_at, Chained, Copies, saved_at, Beside, Climbable, Climbs, Hanging, walk_of, PathLeaves, WholeLeaves}
 use Rattle.closing.specs.Walk.{Wide, hung_at, Hangable, waits, unreached, Walkable, WalkLeaves}

@@ -12,7 +12,7 @@ use Rattle.rules.specs.Building.{next_of}
 use Rattle.rules.proofs.Laws.Links.{linked_turn}
 use Rattle.rules.proofs.Laws.Tables.{placed_rank, rank_placed}
 use Rattle.state.specs.Layout.{tables_in, held_links}
-use Rattle.state.specs.Laws.Layout.{level_word}
+use Rattle.state.proofs.Laws.Layout.{level_word}
 use Rattle.closing.specs.Arranged.{links_in, start_of, smaller_at, after_at, Arranged}
 use Rattle.closing.specs.Walk.{Wide, Placed, greater_of, Smaller, Greater, cursors_at, Found, Findable, Seekable, SeeksSmaller, SeeksGreater, Seeks}
 use Rattle.pieces.specs.Gathered.{held_tables, holds}

@@ -24,7 +24,7 @@ use Rattle.rules.proofs.Laws.Pieces.{Inside, joined_label, member_intro}
 use Rattle.rules.proofs.Laws.Tables.{placed_loose, place_held, placed_place_same, placed_place_other, standing_same, standing_place, rank_most}
 use Rattle.rules.proofs.Laws.Walk.{step_on, step_back, back_at, back_rest, steps_suc, steps_rest, next_new}
 use Rattle.state.specs.Layout.{words, tables_in, forest_in}
-use Rattle.state.specs.Laws.Layout.{level_word, parent_word, store_place, store_scratch}
+use Rattle.state.proofs.Laws.Layout.{level_word, parent_word, store_place, store_scratch}
 use Rattle.closing.specs.Arranged.{links_in, start_of, least_of, smaller_at, Arranged, Frame}
 use Rattle.closing.specs.Walk.{Placed, greater_of, smaller_of, Behind, cursors_at, entered_at, Seekable, Seeks, put_at, hung_at, reached_at, deeper, Reachable, waits, unreached, Walkable, WalkLeaves}
 use Rattle.pieces.specs.Gathered.{held_tables, holds}

@@ -15,8 +15,8 @@ use Rattle.rules.proofs.Laws.Links.{between_elim, between_here, linked_nil, link
 use Rattle.rules.specs.Tables.{Tables, placed}
 use Rattle.state.specs.Layout.{wiped, words, stored, link_in, forest_in, held_links, held_link}
 use Rattle.state.specs.Test.{ends_fit, none_twice}
-use Rattle.state.specs.Laws.Clear.{wiped_back}
-use Rattle.state.specs.Laws.Lists.{drop_take}
+use Rattle.state.proofs.Laws.Clear.{wiped_back}
+use Rattle.state.proofs.Laws.Lists.{drop_take}
 use Rattle.differing.specs.Links.{Lookable}
 use Rattle.index.specs.Index.{flag, Place, Indexed, In, Outside}
 use Rattle.differing.specs.Batches.{slots_most, Open, class_of, classes_most, Differ, Twice, Batchable, Batch, Batches, Recalls, Misses, Sorted, Comparable, Sifts, Compares}

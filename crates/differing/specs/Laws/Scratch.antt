@@ -4,7 +4,7 @@ use Rattle.std.specs.Prelude.{ℕ, ◌-◌, ◌*◌, ◌≤◌, ◌<◌, ◌≡�
 use Rattle.std.proofs.Common.{arith, length-take, length-drop}
 use Rattle.state.specs.Layout.{words, stored}
 use Rattle.state.specs.Test.{all_zero}
-use Rattle.state.specs.Laws.Lists.{all_zeros, zero_at}
+use Rattle.state.proofs.Laws.Lists.{all_zeros, zero_at}
 
 -- All scratch is 0.
 abbrev pub Blank : ℕ → List ℕ → Type 0

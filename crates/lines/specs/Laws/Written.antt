@@ -12,7 +12,7 @@ use Rattle.rules.specs.Reading.{above, lowest, reach, child_of, sole_below, sole
 use Rattle.state.specs.Layout.{wiped, tables_in, forest_in}
 use Rattle.state.specs.Test.{is_read}
 use Rattle.state.specs.Call.{head_refusal}
-use Rattle.state.specs.Laws.Clear.{wiped_length, wiped_before, wiped_within, wiped_behind}
+use Rattle.state.proofs.Laws.Clear.{wiped_length, wiped_before, wiped_within, wiped_behind}
 use Rattle.state.specs.declared.State.{State}
 use Rattle.testing.specs.Only.{Only}
 use Rattle.testing.specs.Laws.Only.{only_trans, only_wider, only_forest, only_whole}

@@ -10,7 +10,7 @@ use Rattle.base.specs.Answer.{gives, refuses}
 use Rattle.base.specs.Link.{Link}
 use Rattle.numbers.specs.Number.{read_number}
 use Rattle.lists.specs.List.{no_size, links_at, and_then, sized, LinkAt, read_ends, read_list, file_links, cut_after, cut_in, cut_at}
-use Rattle.numbers.specs.Theorems.{number_none}
+use Rattle.numbers.proofs.Theorems.{number_none}
 use Rattle.lists.specs.Laws.Link.{no_first, ends_told, Ends, NoEnds, ends_are, ends_are_not, ends_within}
 use Rattle.lists.specs.Laws.Block.{count_gives, count_refuses}
 use Rattle.lists.specs.Scan.{scan_from}

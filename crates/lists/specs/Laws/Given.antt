@@ -5,7 +5,7 @@ use Rattle.std.proofs.Common.{inl, inr, ◌∙◌, arith, drop_of_length-le}
 use Rattle.base.specs.Answer.{gives}
 use Rattle.base.specs.Link.{Link}
 use Rattle.numbers.specs.Words.{Bytes}
-use Rattle.numbers.specs.Theorems.{number_form}
+use Rattle.numbers.proofs.Theorems.{number_form}
 use Rattle.lists.specs.List.{entries_most, links_at, written_links}
 use Rattle.lists.specs.Words.{Sound}
 use Rattle.lists.specs.Laws.Link.{link_accepted}

@@ -11,7 +11,7 @@ use Rattle.base.specs.Answer.{Answer, gives, refuses}
 use Rattle.numbers.specs.Number.{Numeral, read_number}
 use Rattle.lists.specs.List.{fragments_most, no_size, sized, and_then, placed, joins, counts, LinkAt, read_ends, read_link, scan_link, entries_most}
 use Rattle.lists.specs.Words.{shifted}
-use Rattle.numbers.specs.Theorems.{number_within, number_refusal}
+use Rattle.numbers.proofs.Theorems.{number_within, number_refusal}
 use Rattle.lists.specs.Laws.Numbers.{given_more, given_less, given_behind, refused_more, refused_behind}
 
 pub never_both : {A : Type 0} {x : Answer A} {a : A} {number place : ℕ} → x ≡ gives a → x ≡ refuses number place → ⊥

@@ -5,7 +5,7 @@ use Rattle.std.proofs.Common.{sym, subst, ap, ◌∙◌, arith}
 use Rattle.base.specs.Answer.{gives, refuses}
 use Rattle.numbers.specs.Number.{Numeral, read_number}
 use Rattle.numbers.specs.Words.{Whole, seen, moved}
-use Rattle.numbers.specs.Theorems as laws
+use Rattle.numbers.proofs.Theorems as laws
 
 module _ (s : List ℕ) (at : ℕ) (r : Numeral) (e : read_number s at ≡ gives r) where
   whole : Whole (read_number s at)

@@ -7,7 +7,7 @@ use Rattle.std.proofs.Math.Seq.{take-length}
 use Rattle.base.specs.Answer.{Answer, gives, refuses}
 use Rattle.numbers.specs.Number.{groups_most, Numeral, read_number}
 use Rattle.numbers.specs.Words.{seen}
-use Rattle.numbers.specs.Theorems.{number_seen, number_within, number_short, number_few, number_none}
+use Rattle.numbers.proofs.Theorems.{number_seen, number_within, number_short, number_few, number_none}
 use Rattle.lists.specs.List.{and_then, before, LinkAt, read_ends, read_link, links_at, cut_at}
 use Rattle.lists.specs.Words.{seen_second, seen_link}
 use Rattle.lists.specs.Laws.Numbers.{given_less, refused_less}

@@ -11,9 +11,9 @@ use Rattle.rules.specs.Tables.{Tables}
 use Rattle.rules.specs.Numbers.{below, passed, turn, end, at_turn}
 use Rattle.state.specs.Layout.{stored, wiped, tables_in, forest_in}
 use Rattle.state.specs.Test.{is_built, is_numbered}
-use Rattle.state.specs.Laws.Lists.{zero_at}
-use Rattle.state.specs.Laws.Behind.{behind_plain}
-use Rattle.state.specs.Laws.Clear.{wiped_length, wiped_before, wiped_within, wiped_behind}
+use Rattle.state.proofs.Laws.Lists.{zero_at}
+use Rattle.state.proofs.Laws.Behind.{behind_plain}
+use Rattle.state.proofs.Laws.Clear.{wiped_length, wiped_before, wiped_within, wiped_behind}
 use Rattle.state.specs.declared.State.{State}
 use Rattle.state.specs.declared.Stage.{Stage}
 use Rattle.state.specs.declared.Stage.TheVariants.{Building, Built, Reading, Read}

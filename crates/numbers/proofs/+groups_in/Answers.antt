@@ -4,7 +4,7 @@ use Prim.Native.Nat.{◌/◌}
 use mathlib.Core.Path.{sym, ap}
 use native.Mathlib.Omega.{arith}
 use lib.ListN.{length}
-use Rattle.numbers.specs.Laws.Writing.{all_last, all_more, all_few}
+use Rattle.numbers.proofs.Laws.Writing.{all_last, all_more, all_few}
 use Rattle.numbers.proofs.+groups_in.Goals as goal
 
 pub returns-then-value-lt128 : goal.returns-then-value-lt128

@@ -2,7 +2,7 @@
 -- Assumes nothing.
 use mathlib.Core.Path.{◌∙◌}
 use native.Mathlib.Omega.{arith}
-use Rattle.numbers.specs.Laws.Writing.{all_some, put_last, put_room, put_further}
+use Rattle.numbers.proofs.Laws.Writing.{all_some, put_last, put_room, put_further}
 use Rattle.numbers.proofs.+put_groups.Goals as goal
 
 pub bounds-buffer-at : goal.bounds-buffer-at

@@ -3,7 +3,7 @@
 use Prim.Native.Nat.{◌+◌, ◌*◌, ◌/◌, ◌<◌, ◌≤◌}
 use mathlib.Core.Path.{◌∙◌}
 use native.Mathlib.Omega.{arith}
-use Rattle.numbers.specs.Laws.Reading.{Follows, follows, third_small, read_end, read_one, read_out, read_long, read_far, read_more}
+use Rattle.numbers.proofs.Laws.Reading.{Follows, follows, third_small, read_end, read_one, read_out, read_long, read_far, read_more}
 use Rattle.numbers.proofs.read_number.Goals as goal
 use Rattle.numbers.proofs.read_number.Goals.{After-byte_at-third}
 

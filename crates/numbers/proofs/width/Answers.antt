@@ -3,7 +3,7 @@
 use mathlib.Core.Path.{sym, ap, ◌∙◌}
 use native.Mathlib.Omega.{arith}
 use lib.ListN.{length}
-use Rattle.numbers.specs.Laws.Writing.{written_all, width_is, width_none}
+use Rattle.numbers.proofs.Laws.Writing.{written_all, width_is, width_none}
 use Rattle.numbers.proofs.width.Goals as goal
 
 pub returns-then-value-gt-VALUE_MOST : goal.returns-then-value-gt-VALUE_MOST

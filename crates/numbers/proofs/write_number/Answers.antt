@@ -1,7 +1,7 @@
 -- `numbers::write_number` meets its contract. Each answer is the one that the number's width and the room leave.
 -- Assumes nothing.
 use native.Mathlib.Omega.{arith}
-use Rattle.numbers.specs.Laws.Writing.{number_far, number_short, number_room, number_done}
+use Rattle.numbers.proofs.Laws.Writing.{number_far, number_short, number_room, number_done}
 use Rattle.numbers.proofs.write_number.Goals as goal
 
 pub returns-then-size-eq0 : goal.returns-then-size-eq0

@@ -13,8 +13,8 @@ use Rattle.state.specs.Layout.{forest_in, held_links}
 use Rattle.state.specs.Call.{room_most}
 use Rattle.state.specs.Test.{asked, ends_fit, quota_fits}
 use Rattle.state.specs.declared.State.{State}
-use Rattle.state.specs.Laws.Held.{ends_known}
-use Rattle.state.specs.Laws.Tests.{every_none, every_more, every_fails}
+use Rattle.state.proofs.Laws.Held.{ends_known}
+use Rattle.state.proofs.Laws.Tests.{every_none, every_more, every_fails}
 use Rattle.pieces.specs.Pieces.{Gatherable}
 use Rattle.testing.specs.Laws.Head.{head_known}
 use Rattle.differing.specs.Links.{Lookable}

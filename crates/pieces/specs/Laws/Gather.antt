@@ -20,7 +20,7 @@ use Rattle.rules.proofs.Laws.Pieces.{Inside, merged_larger, merged_other, merged
 use Rattle.rules.proofs.Laws.Quota.{size_join, size_other, held_in_join, held_in_other, held_in_more, held_in_as}
 use Rattle.state.specs.Layout.{words, stored, link_in, held_links, held_link}
 use Rattle.state.specs.Call.{fragments_most}
-use Rattle.state.specs.Laws.Lists.{length-map}
+use Rattle.state.proofs.Laws.Lists.{length-map}
 use Rattle.pieces.specs.Joined.{is_in, found, added, counted, united, bound, joined}
 use Rattle.pieces.specs.Pieces.{Members, held_most, Gathered, Kept, LabelIs, Finds, Joinable, Joins, Gatherable, Gathers}
 use Rattle.differing.specs.Laws.Scratch.{Blank, blank_at}

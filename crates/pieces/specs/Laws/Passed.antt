@@ -6,9 +6,9 @@ use Rattle.std.proofs.Math.Decide.{ℕ_discrete}
 use Rattle.base.specs.Truth.{T_dec, T_true, T_false}
 use Rattle.state.specs.Test.{is_building, sound}
 use Rattle.state.specs.Call.{bounds_refusal, head_refusal}
-use Rattle.state.specs.Laws.Bounds.{Bounds, bounds_known}
-use Rattle.state.specs.Laws.Tests.{head_bounds, head_stage, head_unsound}
-use Rattle.state.specs.Laws.Sound.{Sound, sound_known}
+use Rattle.state.proofs.Laws.Bounds.{Bounds, bounds_known}
+use Rattle.state.proofs.Laws.Tests.{head_bounds, head_stage, head_unsound}
+use Rattle.state.proofs.Laws.Sound.{Sound, sound_known}
 use Rattle.state.specs.declared.State.{State}
 use Rattle.state.specs.declared.Stage.{Stage}
 use Rattle.state.specs.declared.Stage.TheVariants.{Building, Built, Reading, Read}

@@ -4,7 +4,7 @@ use Rattle.std.specs.Prelude.{ℕ, ◌*◌, ◌≤◌, ◌≡◌, List, length}
 use Rattle.std.proofs.Common.{sym, ◌∙◌, arith, ext_get_or}
 use Rattle.std.proofs.Math.Decide.{dec_lt}
 use Rattle.state.specs.Layout.{words, stored, wiped}
-use Rattle.state.specs.Laws.Clear.{wiped_length, wiped_before, wiped_within, wiped_behind}
+use Rattle.state.proofs.Laws.Clear.{wiped_length, wiped_before, wiped_within, wiped_behind}
 use Rattle.differing.specs.Laws.Scratch.{Blank, blank_at}
 use Rattle.pieces.specs.Pieces.{Kept}
 use Rattle.pieces.specs.Laws.Pieces.{front_at, rest_at}

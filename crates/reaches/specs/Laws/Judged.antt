@@ -17,7 +17,7 @@ use Rattle.rules.proofs.Laws.Search.{count_some, some_count, count_yes, count_no
 use Rattle.rules.proofs.Laws.Reports.{piece_of_tree}
 use Rattle.rules.proofs.Laws.Up.{par_in, up_in, up_lev}
 use Rattle.state.specs.Layout.{stored, bare, forest_in}
-use Rattle.state.specs.Laws.Layout.{tables_frag_same}
+use Rattle.state.proofs.Laws.Layout.{tables_frag_same}
 use Rattle.testing.specs.Whole.{Whole}
 use Rattle.testing.specs.Only.{Only}
 use Rattle.testing.specs.Laws.Whole.{levels}

@@ -12,12 +12,12 @@ use Rattle.rules.specs.Reading.{above, lowest, reach, child_of, sole_below, cut,
 use Rattle.state.specs.Layout.{wiped, tables_in, forest_in}
 use Rattle.state.specs.Test.{is_building, is_reading, is_read, is_numbered}
 use Rattle.state.specs.Call.{head_refusal}
-use Rattle.state.specs.Laws.Lists.{zero_at}
-use Rattle.state.specs.Laws.Behind.{numbered_zero}
-use Rattle.state.specs.Laws.Clear.{wiped_length, wiped_before, wiped_within, wiped_behind}
-use Rattle.state.specs.Laws.Sound.{sound_known}
-use Rattle.state.specs.Laws.Keeps.{head_known}
-use Rattle.state.specs.Laws.KeepsReading.{not_building}
+use Rattle.state.proofs.Laws.Lists.{zero_at}
+use Rattle.state.proofs.Laws.Behind.{numbered_zero}
+use Rattle.state.proofs.Laws.Clear.{wiped_length, wiped_before, wiped_within, wiped_behind}
+use Rattle.state.proofs.Laws.Sound.{sound_known}
+use Rattle.state.proofs.Laws.Keeps.{head_known}
+use Rattle.state.proofs.Laws.KeepsReading.{not_building}
 use Rattle.state.specs.declared.State.{State}
 use Rattle.testing.specs.Laid.{Laid}
 use Rattle.testing.specs.Laws.Whole.{passed_numbered}

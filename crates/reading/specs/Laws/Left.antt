@@ -11,11 +11,11 @@ use Rattle.rules.proofs.Laws.Tables.{SameForest}
 use Rattle.state.specs.Layout.{words, stored, numbers, moved_on, wiped, tables_in, forest_in, numbers_of, behind, frag_of, held_of}
 use Rattle.state.specs.Test.{is_building, is_built, is_reading, is_numbered}
 use Rattle.state.specs.Close.{opens}
-use Rattle.state.specs.Laws.Lists.{parts, zeros, all_none}
-use Rattle.state.specs.Laws.Layout.{tables_cleared}
-use Rattle.state.specs.Laws.Clear.{wiped_is, wiped_length, wiped_front, wiped_past, wiped_within}
-use Rattle.state.specs.Laws.Behind.{rest, behind_numbered, behind_plain, behind_length, behind_same, numbered_zero}
-use Rattle.state.specs.Laws.Lay.{frag_laid, held_laid}
+use Rattle.state.proofs.Laws.Lists.{parts, zeros, all_none}
+use Rattle.state.proofs.Laws.Layout.{tables_cleared}
+use Rattle.state.proofs.Laws.Clear.{wiped_is, wiped_length, wiped_front, wiped_past, wiped_within}
+use Rattle.state.proofs.Laws.Behind.{rest, behind_numbered, behind_plain, behind_length, behind_same, numbered_zero}
+use Rattle.state.proofs.Laws.Lay.{frag_laid, held_laid}
 use Rattle.state.specs.declared.State.{State}
 use Rattle.state.specs.declared.Stage.{Stage}
 use Rattle.state.specs.declared.Stage.TheVariants.{Built, Reading}

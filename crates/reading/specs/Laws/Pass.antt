@@ -15,13 +15,13 @@ use Rattle.state.specs.Test.{is_reading, is_numbered}
 use Rattle.state.specs.Call.{refused, head_refusal, leaves, moved}
 use Rattle.state.specs.Close.{read, opens, open_call, close_in, end_reading}
 use Rattle.state.specs.Answers.{told, taken_told, closed_told}
-use Rattle.state.specs.Laws.Layout.{tables_state}
-use Rattle.state.specs.Laws.Behind.{behind_numbered}
-use Rattle.state.specs.Laws.Lay.{frag_laid}
-use Rattle.state.specs.Laws.Agrees.{Agrees}
-use Rattle.state.specs.Laws.Sound.{held_found}
-use Rattle.state.specs.Laws.Keeps.{head_known}
-use Rattle.state.specs.Laws.Answers.{headed_refused, headed_passed}
+use Rattle.state.proofs.Laws.Layout.{tables_state}
+use Rattle.state.proofs.Laws.Behind.{behind_numbered}
+use Rattle.state.proofs.Laws.Lay.{frag_laid}
+use Rattle.state.proofs.Laws.Agrees.{Agrees}
+use Rattle.state.proofs.Laws.Sound.{held_found}
+use Rattle.state.proofs.Laws.Keeps.{head_known}
+use Rattle.state.proofs.Laws.Answers.{headed_refused, headed_passed}
 use Rattle.state.specs.declared.State.{State}
 use Rattle.state.specs.declared.Stage.TheVariants.{Built, Reading, Read}
 use Rattle.state.specs.declared.Taken.TheVariants.{On, Refused as Untaken}

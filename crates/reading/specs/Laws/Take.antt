@@ -19,9 +19,9 @@ use Rattle.state.specs.Test.{is_building, is_reading}
 use Rattle.state.specs.Call.{head_refusal, leaves, moved}
 use Rattle.state.specs.Take.{tell, taken, take_in}
 use Rattle.state.specs.Answers.{taken_told}
-use Rattle.state.specs.Laws.Answers.{headed_refused, headed_passed}
-use Rattle.state.specs.Laws.Behind.{behind_same}
-use Rattle.state.specs.Laws.Lay.{frag_kept, held_laid}
+use Rattle.state.proofs.Laws.Answers.{headed_refused, headed_passed}
+use Rattle.state.proofs.Laws.Behind.{behind_same}
+use Rattle.state.proofs.Laws.Lay.{frag_kept, held_laid}
 use Rattle.state.specs.declared.State.{State}
 use Rattle.state.specs.declared.Taken.TheVariants.{On, Refused as Untaken}
 use Rattle.reading.specs.Tell.{crossed_in, Reads, Given, links_of}

@@ -20,7 +20,7 @@ use Rattle.rules.proofs.Laws.Tables.{SameForest, same_par, same_lev, same_placed
 use Rattle.rules.proofs.Laws.Numbers.{turn_end}
 use Rattle.rules.proofs.Laws.SameNumbers.{same_turn, same_end, same_at_turn}
 use Rattle.state.specs.Layout.{stored, section, tables_in, forest_in, turn_in, end_in, above_in}
-use Rattle.state.specs.Laws.Layout.{section_same, section_length, note_word, store_note, store_mark, store_crossed}
+use Rattle.state.proofs.Laws.Layout.{section_same, section_length, note_word, store_note, store_mark, store_crossed}
 use Rattle.testing.specs.Whole.{Whole, Numbered}
 use Rattle.lists.specs.List.{fragments_most, links_at, block_links, scan_link}
 use Rattle.lists.specs.Laws.Link.{link_accepted, link_read, link_told_lem}

@@ -3,7 +3,7 @@
 use Prim.Native.Nat.{◌≤◌}
 use native.Mathlib.Omega.{arith}
 use native.Mathlib.Nat.{mul-le-mul}
-use Rattle.state.specs.Laws.Bounds.{no_fragments, many_fragments, no_room, much_room, short_frag, short_held, within_bounds}
+use Rattle.state.proofs.Laws.Bounds.{no_fragments, many_fragments, no_room, much_room, short_frag, short_held, within_bounds}
 use borrow.Author.Rules.{rules}
 use Rattle.state.proofs.bounds.Goals as goal
 

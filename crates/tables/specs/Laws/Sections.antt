@@ -10,7 +10,7 @@ use Rattle.rules.specs.Tables.{Tables, rank, parent_of, note_of, placed, par, le
 use Rattle.rules.specs.Building.{better}
 use Rattle.rules.specs.Reading.{lowest}
 use Rattle.state.specs.Layout.{section, turn_in, end_in, above_in, link_in, held_link, Says}
-use Rattle.state.specs.Laws.Layout.{section_at}
+use Rattle.state.proofs.Laws.Layout.{section_at}
 
 module _ (n j : ℕ) (f : List ℕ) (v : ℕ) where
   short : length (section n j f) ≤ v → Says 0 (get_or (section n j f) v 0)

@@ -8,9 +8,9 @@ use Rattle.base.specs.Truth.{T_dec, T_true, T_false}
 use Rattle.state.specs.Layout.{forest_in, held_links}
 use Rattle.state.specs.Test.{is_building, sound}
 use Rattle.state.specs.Call.{bounds_refusal, head_refusal}
-use Rattle.state.specs.Laws.Bounds.{Bounds, bounds_known}
-use Rattle.state.specs.Laws.Sound.{Sound, sound_known}
-use Rattle.state.specs.Laws.Tests as plain
+use Rattle.state.proofs.Laws.Bounds.{Bounds, bounds_known}
+use Rattle.state.proofs.Laws.Sound.{Sound, sound_known}
+use Rattle.state.proofs.Laws.Tests as plain
 use Rattle.state.specs.declared.State.{State}
 use Rattle.state.specs.declared.Stage.{Stage}
 use Rattle.state.specs.declared.Stage.TheVariants.{Building, Built, Reading, Read}

@@ -3,7 +3,7 @@
 use Rattle.std.specs.Prelude.{ℕ, ◌+◌, ◌-◌, ◌*◌, ◌≤◌, ◌<◌, min, ◌≡◌, refl, List, [], length, get_or, set, take, drop}
 use Rattle.std.proofs.Common.{sym, ap, ◌∙◌, arith, length-set, length-take, length-drop, ext_get_or, get_or-set_other, get_or-take, get_or-drop}
 use Rattle.state.specs.Layout.{stored, bare, forest_in}
-use Rattle.state.specs.Laws.Layout.{tables_frag_same}
+use Rattle.state.proofs.Laws.Layout.{tables_frag_same}
 use Rattle.testing.specs.Whole.{Whole}
 use Rattle.testing.specs.Only.{Only}
 

@@ -22,11 +22,11 @@ use Rattle.rules.specs.Forest.{Levels}
 use Rattle.rules.proofs.Laws.Tables.{par_placed, levels_stand}
 use Rattle.state.specs.Layout.{words, stored, numbers, stored_in, tables_in, forest_in, held_links}
 use Rattle.state.specs.Test.{entries_most, is_building, is_built, is_reading, is_read, is_numbered, asked, all_zero, stage_fits, stands_at, forest_fits, ends_fit, none_twice, quota_fits, held_fits, note_fits, clear_at, low_fits, notes_fit, rest_zero, counts_fit, read_fits, mark_fits, rest_agrees, numbers_fit, fits, sound}
-use Rattle.state.specs.Laws.Lists.{drop_take}
-use Rattle.state.specs.Laws.Tests.{and_true_right}
-use Rattle.state.specs.Laws.Held.{asked_use, asked_make}
-use Rattle.state.specs.Laws.Agrees.{orphans}
-use Rattle.state.specs.Laws.Known.{stands_at_lem}
+use Rattle.state.proofs.Laws.Lists.{drop_take}
+use Rattle.state.proofs.Laws.Tests.{and_true_right}
+use Rattle.state.proofs.Laws.Held.{asked_use, asked_make}
+use Rattle.state.proofs.Laws.Agrees.{orphans}
+use Rattle.state.proofs.Laws.Known.{stands_at_lem}
 use Rattle.state.specs.declared.State.{State}
 use Rattle.state.specs.declared.Stage.{Stage}
 use Rattle.state.specs.declared.Stage.TheVariants.{Building, Built, Reading, Read}

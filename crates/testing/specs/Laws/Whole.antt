@@ -12,8 +12,8 @@ use Rattle.rules.proofs.Laws.Numbers.{above_range}
 use Rattle.rules.proofs.Laws.SameNumbers.{same_turn, same_end, same_at_turn}
 use Rattle.state.specs.Layout.{tables_in, forest_in, bare, above_in}
 use Rattle.state.specs.Test.{is_building, is_numbered}
-use Rattle.state.specs.Laws.Behind.{words_numbers}
-use Rattle.state.specs.Laws.Layout.{level_word}
+use Rattle.state.proofs.Laws.Behind.{words_numbers}
+use Rattle.state.proofs.Laws.Layout.{level_word}
 use Rattle.state.specs.declared.State.{State}
 use Rattle.testing.specs.Whole.{Whole, Numbered}
 use Rattle.testing.specs.Laws.Head.{Passed}

@@ -8,7 +8,7 @@ use Rattle.base.specs.Pick.{tests}
 use Rattle.base.specs.Answer.{Answer, gives, refuses}
 use Rattle.base.specs.Link.{Link}
 use Rattle.numbers.specs.Number.{written_number, put}
-use Rattle.numbers.specs.Theorems.{number_written}
+use Rattle.numbers.proofs.Theorems.{number_written}
 use Rattle.lists.specs.List.{entries_most, fragments_most, and_then, before, LinkAt, links_at, written_links}
 use Rattle.lists.specs.Words.{Sound}
 use Rattle.lists.specs.Laws.Link.{Ends, never_both}

@@ -14,7 +14,7 @@ use Rattle.base.specs.Pick.{pick_true, pick_false, tests}
 use Rattle.base.specs.Answer.{Answer, gives, refuses}
 use Rattle.base.specs.Link.{Link}
 use Rattle.numbers.specs.Number.{groups_most, value_most, written_number, put, width_of, Wrote, write_up_to, write_number}
-use Rattle.numbers.specs.Laws.Writing.{put_none, length_put, written_few, width_few, width_is}
+use Rattle.numbers.proofs.Laws.Writing.{put_none, length_put, written_few, width_few, width_is}
 use Rattle.lists.specs.List.{fragments_most, and_then, before, no_size, sized, bad_ends, written_links}
 use Rattle.lists.specs.Words.{Sound}
 use Rattle.lists.specs.Laws.Link.{never_both, and_then_gives, size_good, sized_gives, joins_gives}

@@ -5,7 +5,7 @@ use mathlib.Core.Path.{◌≡◌, sym, ◌∙◌, ap}
 use native.Mathlib.Omega.{arith}
 use Rattle.adopting.specs.Laws.Adopt.{inside_fails, inside_more}
 use Rattle.rules.specs.Search.{every}
-use Rattle.state.specs.Laws.Tests.{every_none}
+use Rattle.state.proofs.Laws.Tests.{every_none}
 use Rattle.adopting.proofs.parents.inside.Goals as goal
 
 pub loop-v-init : goal.loop-v-init

@@ -5,7 +5,7 @@ use Prim.Native.Nat.{◌≤◌, ◌-◌, ◌+◌, ◌*◌}
 use mathlib.Core.Path.{◌≡◌}
 use native.Mathlib.Omega.{arith}
 use Rattle.state.specs.Layout.{bare}
-use Rattle.state.specs.Laws.Layout.{note_word}
+use Rattle.state.proofs.Laws.Layout.{note_word}
 use Rattle.closing.specs.Laws.Members.{Along, along_first, along_next}
 use Rattle.tables.specs.Laws.Sections.{better_small}
 use Rattle.closing.specs.Laws.Choosing.{BestNote, best_start, best_next}

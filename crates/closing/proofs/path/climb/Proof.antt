@@ -3,7 +3,7 @@
 use mathlib.Core.List.{[]}
 use Rattle.closing.specs.Laws.Frames.{wide_by}
 use Rattle.closing.specs.Laws.Copying.{keepable, Climbing, climbing_starts, climbing_up, climbing_ends}
-use Rattle.state.specs.Laws.Layout.{level_word}
+use Rattle.state.proofs.Laws.Layout.{level_word}
 use Rattle.state.specs.Layout.{bare}
 use borrow.Author.Rules.{rules}
 use native.Mathlib.Omega.{arith}

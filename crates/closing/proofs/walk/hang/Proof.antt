@@ -2,7 +2,7 @@
 -- Assumes nothing.
 use mathlib.Core.List.{[]}
 use Rattle.closing.specs.Laws.Walking.{hung_root, hung_under}
-use Rattle.state.specs.Laws.Layout.{level_word}
+use Rattle.state.proofs.Laws.Layout.{level_word}
 use Rattle.state.specs.Layout.{bare}
 use native.Mathlib.Omega.{arith}
 use Prim.Native.Nat.{◌-◌}

@@ -2,7 +2,7 @@
 -- Assumes nothing.
 use mathlib.Core.List.{[]}
 use Rattle.closing.specs.Laws.Walking.{deeper_new, deeper_old, reached_put}
-use Rattle.state.specs.Laws.Layout.{level_word}
+use Rattle.state.proofs.Laws.Layout.{level_word}
 use Rattle.state.specs.Layout.{bare}
 use native.Mathlib.Omega.{arith}
 use borrow.Author.Rules.{rules}

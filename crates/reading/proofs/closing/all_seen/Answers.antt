@@ -6,7 +6,7 @@ use mathlib.Core.Bool.{true}
 use native.Mathlib.Omega.{arith}
 use Rattle.rules.specs.Search.{every}
 use Rattle.rules.specs.Reading.{seen}
-use Rattle.state.specs.Laws.Tests.{every_none, every_more, every_fails}
+use Rattle.state.proofs.Laws.Tests.{every_none, every_more, every_fails}
 use Rattle.reading.proofs.closing.all_seen.Goals as goal
 
 pub loop-v-init : goal.loop-v-init

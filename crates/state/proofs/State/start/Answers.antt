@@ -3,8 +3,8 @@
 use mathlib.Core.Path.{sym, ◌∙◌}
 use native.Mathlib.Omega.{arith}
 use native.Mathlib.Nat.{mul-le-mul}
-use Rattle.state.specs.Laws.Bounds.{bounds_known}
-use Rattle.state.specs.Laws.Start.{start_refused, start_ready, frag_fresh, held_fresh}
+use Rattle.state.proofs.Laws.Bounds.{bounds_known}
+use Rattle.state.proofs.Laws.Start.{start_refused, start_ready, frag_fresh, held_fresh}
 use Rattle.state.proofs.State.start.Goals as goal
 
 pub returns-then-refusal-ne0 : goal.returns-then-refusal-ne0

@@ -5,7 +5,7 @@ use mathlib.Core.Path.{refl, ◌∙◌}
 use native.Mathlib.Omega.{arith}
 use lib.ListN.{length, length-set}
 use Rattle.state.specs.Layout.{wiped}
-use Rattle.state.specs.Laws.Clear.{wiped_none, wiped_more, clear_ends}
+use Rattle.state.proofs.Laws.Clear.{wiped_none, wiped_more, clear_ends}
 use Rattle.state.proofs.words.clear.Goals as goal
 
 pub loop-i-init : goal.loop-i-init

@@ -7,7 +7,7 @@ use mathlib.Core.Path.{refl, sym, ap, ◌∙◌}
 use native.Mathlib.Omega.{arith}
 use lib.ListN.{take, drop}
 use Rattle.state.specs.Test.{all_zero}
-use Rattle.state.specs.Laws.Tests.{zero_ends, zero_more, and_true_right}
+use Rattle.state.proofs.Laws.Tests.{zero_ends, zero_more, and_true_right}
 use Rattle.state.proofs.words.zeros.Goals as goal
 
 pub least-end-requires : goal.least-end-requires

@@ -2,7 +2,7 @@
 -- Assumes nothing.
 use mathlib.Core.Path.{sym, ◌∙◌}
 use native.Mathlib.Omega.{arith}
-use Rattle.state.specs.Laws.Bounds.{bounds_known}
+use Rattle.state.proofs.Laws.Bounds.{bounds_known}
 use Rattle.testing.specs.Laws.Head.{due_bounds, due_stage, due_tables, due_none}
 use Rattle.testing.proofs.refusals.head.Goals as goal
 

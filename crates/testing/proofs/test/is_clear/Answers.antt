@@ -1,7 +1,7 @@
 -- `testing::test::is_clear` meets its contract: one law for each answer.
 -- Assumes nothing.
 use native.Mathlib.Omega.{arith}
-use Rattle.state.specs.Laws.Tests.{clear_not, clear_so}
+use Rattle.state.proofs.Laws.Tests.{clear_not, clear_so}
 use Rattle.testing.proofs.test.is_clear.Goals as goal
 
 pub returns-then-note_at-ne0 : goal.returns-then-note_at-ne0

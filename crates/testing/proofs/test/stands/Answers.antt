@@ -1,7 +1,7 @@
 -- `testing::test::stands` meets its contract: one law for each answer.
 -- Assumes nothing.
 use native.Mathlib.Omega.{arith}
-use Rattle.state.specs.Laws.Tests.{stands_root, stands_far, stands_loose, stands_under}
+use Rattle.state.proofs.Laws.Tests.{stands_root, stands_far, stands_loose, stands_under}
 use Rattle.testing.proofs.test.stands.Goals as goal
 
 pub returns-then-p-v : goal.returns-then-p-v

@@ -6,7 +6,7 @@ use mathlib.Core.Path.{◌≡◌, sym, ap, ◌∙◌}
 use native.Mathlib.Omega.{arith}
 use Rattle.rules.specs.Search.{every}
 use Rattle.state.specs.Layout.{forest_in}
-use Rattle.state.specs.Laws.Tests.{every_none, every_more, every_fails}
+use Rattle.state.proofs.Laws.Tests.{every_none, every_more, every_fails}
 use Rattle.testing.specs.Test.{words_fit}
 use Rattle.testing.proofs.turns.numbers_fit.Goals as goal
 
