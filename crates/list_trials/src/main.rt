@@ -1,9 +1,12 @@
 // Lists at random, from a fixed seed, written, read back, and damaged: `lists` and `writing` against a second reading, written here from document
 // 01, which takes the bytes one by one.
+#![tactic(auto)]
+
 ghost use Rattle.std.specs.Prelude.{◌≤◌};
 
 use lists::{Link, Listed, Scanned};
 use numbers::{Refusal, Written};
+use std::io;
 
 const TRIALS: usize = 20000;
 
@@ -163,17 +166,17 @@ fn second(n: u32, entries: u32, s: &[u8]) -> Scanned {
 }
 
 // The refusal on which two answers agree, 0 where both give the same number of links, and 99 where they differ.
-fn same_refusal(p: Refusal, q: Refusal) -> u32 {
+fn same_refusal(p: &Refusal, q: Refusal) -> u32 {
     if p.number != q.number {
         return 99;
     }
     if p.place == q.place { p.number } else { 99 }
 }
 
-fn same(a: Scanned, b: Scanned) -> u32 {
+fn same(a: &Scanned, b: Scanned) -> u32 {
     match a {
         Scanned::Links(x) => match b {
-            Scanned::Links(y) => { if x == y { 0 } else { 99 } }
+            Scanned::Links(y) => { if *x == y { 0 } else { 99 } }
             Scanned::Refused(_) => 99,
         },
         Scanned::Refused(p) => match b {
@@ -229,11 +232,11 @@ fn compared(n: u32, entries: u32, block: &[u8], seed: u64) -> u32 {
     let whole = lists::scan(n, entries, block);
     let k = (seed % 20) as usize;
     if k <= block.len() {
-        if same(whole, parts(n, entries, block, k)) == 99 {
+        if same(&whole, parts(n, entries, block, k)) == 99 {
             return 99;
         }
     }
-    same(whole, second(n, entries, block))
+    same(&whole, second(n, entries, block))
 }
 
 // One byte of two is small, one of four any, and one has the top bit set.
@@ -424,29 +427,28 @@ fn trials() -> Tally {
     t
 }
 
-fn often(n: u64) {
+fn often(rt: &impl Print, n: u64) -> io::Result<()> {
     if n > 100 {
-        io::write_all(1, b" yes");
+        print!(rt; " yes")
     } else {
-        io::write_all(1, b" no");
+        print!(rt; " no")
     }
 }
 
-fn main() {
+fn main(rt: HostRuntime) -> io::Result<()> {
     let t = trials();
-    io::write_all(1, b"random lists, written, read back, damaged ");
-    io::print_decimal(1, TRIALS as u64);
-    io::write_all(1, b": expected 0 different, got ");
-    io::print_decimal(1, t.differ);
-    io::write_all(
-        1,
-        b"\n  more than 100 times accepted and refused 4, 5, 7, 8, 12: expected yes yes yes yes yes yes, got",
-    );
-    often(t.given);
-    often(t.four);
-    often(t.five);
-    often(t.seven);
-    often(t.eight);
-    often(t.twelve);
-    io::write_all(1, b"\n");
+    print!(rt;
+        "random lists, written, read back, damaged {TRIALS}: expected 0 different, got {}",
+        t.differ
+    )?;
+    print!(rt;
+        "\n  more than 100 times accepted and refused 4, 5, 7, 8, 12: expected yes yes yes yes yes yes, got"
+    )?;
+    often(&rt, t.given)?;
+    often(&rt, t.four)?;
+    often(&rt, t.five)?;
+    often(&rt, t.seven)?;
+    often(&rt, t.eight)?;
+    often(&rt, t.twelve)?;
+    println!(rt)
 }

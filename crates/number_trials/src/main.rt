@@ -2,9 +2,12 @@
 //
 // An answer is one number here: of a refusal its number, and of what was read or written 16 times the next position, and 256 times the value.
 // The places of refusals are compared by the cases that are told one by one.
+#![tactic(auto)]
+
 ghost use Rattle.std.specs.Prelude.{◌<◌};
 
 use numbers::{Read, Written};
+use std::io;
 
 const TRIALS: usize = 20000;
 
@@ -202,7 +205,7 @@ fn more(n: u64) -> u64 {
 }
 
 // Runs the trials. Each kind of answer that is to be met is `one`, `two` or a number read or written.
-fn trials(write: bool, one: u64, two: u64) {
+fn trials(rt: &impl Print, write: bool, one: u64, two: u64) -> io::Result<()> {
     let mut met = [0u64; 16];
     let mut seed: u64 = 2026;
     for i in 0..TRIALS {
@@ -211,31 +214,27 @@ fn trials(write: bool, one: u64, two: u64) {
         met[k] = more(met[k]);
     }
     show(
+        rt,
         met[15],
         met[0],
         met[(one % 16) as usize],
         met[(two % 16) as usize],
-    );
+    )
 }
 
-fn show(differ: u64, given: u64, one: u64, two: u64) {
-    io::print_decimal(1, TRIALS as u64);
-    io::write_all(1, b": expected 0 different, got ");
-    io::print_decimal(1, differ);
-    io::write_all(
-        1,
-        b"\n  each kind of answer more than 1000 times: expected yes, got ",
-    );
+fn show(rt: &impl Print, differ: u64, given: u64, one: u64, two: u64) -> io::Result<()> {
+    print!(rt; "{TRIALS}: expected 0 different, got {differ}")?;
+    print!(rt; "\n  each kind of answer more than 1000 times: expected yes, got ")?;
     if given > 1000 && one > 1000 && two > 1000 {
-        io::write_all(1, b"yes\n");
+        println!(rt; "yes")
     } else {
-        io::write_all(1, b"no\n");
+        println!(rt; "no")
     }
 }
 
-fn main() {
-    io::write_all(1, b"random reads ");
-    trials(false, 7, 8);
-    io::write_all(1, b"random writes ");
-    trials(true, 7, 3);
+fn main(rt: HostRuntime) -> io::Result<()> {
+    print!(rt; "random reads ")?;
+    trials(&rt, false, 7, 8)?;
+    print!(rt; "random writes ")?;
+    trials(&rt, true, 7, 3)
 }
