@@ -1,4 +1,6 @@
 // Take while the forest is built.
+#![tactic(auto)]
+
 mod hold;
 mod links;
 mod noted;

@@ -1,4 +1,6 @@
 // Close in Building: the pieces are placed.
+#![tactic(auto)]
+
 mod arrange;
 mod choose;
 mod closing;

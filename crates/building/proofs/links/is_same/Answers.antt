@@ -1,0 +1,14 @@
+-- `building::links::is_same` meets its contract: one law for each answer.
+-- Assumes nothing.
+use native.Mathlib.Omega.{arith}
+use Rattle.building.specs.Laws.Among.{same_straight, same_turned, same_not}
+use Rattle.building.proofs.links.is_same.Goals as goal
+
+pub returns-then-c-a : goal.returns-then-c-a
+returns-then-c-a c = same_straight _ _ _ _ (omega arith)
+
+pub returns-then-c-b : goal.returns-then-c-b
+returns-then-c-b c = same_turned _ _ _ _ (omega arith) (omega arith)
+
+pub returns : goal.returns
+returns c = same_not _ _ _ _ (omega arith) (omega arith)
