@@ -38,12 +38,12 @@ returns-then-at-top c h₀ W =
 
 pub offset_bounds-frag-at : goal.offset_bounds-frag-at
 offset_bounds-frag-at c =
-    omega (arith, (going_seekable (here (goal.at.offset_bounds-frag-at c).At-loop-left)).in-range, (here (goal.at.offset_bounds-frag-at c).At-loop-left).arranged.few)
+    omega (arith, (going_seekable (here (goal.at.offset_bounds-frag-at c).At-loop-left)).in_range, (here (goal.at.offset_bounds-frag-at c).At-loop-left).arranged.few)
 
 pub bounds-frag-at : goal.bounds-frag-at
 bounds-frag-at c =
     let G = (going_seeks (here (goal.at.bounds-frag-at c).At-loop-left) _ _ c.next_of-x.ensures).0 in
-    omega (arith, (going_seekable G).in-range, G.arranged.long)
+    omega (arith, (going_seekable G).in_range, G.arranged.long)
 
 pub loop-left-preserved : goal.loop-left-preserved
 loop-left-preserved c f₀ h₀ e W =
