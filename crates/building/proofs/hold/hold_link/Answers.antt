@@ -13,4 +13,4 @@ pub returns-then-may_hold : goal.returns-then-may_hold
 returns-then-may_hold c = hold_more c.requires c.may_hold.ensures c.if-may_hold.true _ _ c.hold.ensures _ c.note_held.ensures.0 c.note_held.ensures.1
 
 pub returns : goal.returns
-returns c = c.may_hold.ensures.false c.if-may_hold.false
+returns c = c.may_hold.ensures.left c.if-may_hold.false

@@ -19,16 +19,16 @@ pub bounds-frag-n : goal.bounds-frag-n
 bounds-frag-n c = omega (arith, within_sized c.requires)
 
 pub returns-then-frag-n-eq1 : goal.returns-then-frag-n-eq1
-returns-then-frag-n-eq1 c = within_lost c.requires (sym (c.else-not-room.true) ∙ c.has_room-room.ensures) (omega flags)
+returns-then-frag-n-eq1 c = within_lost c.requires (sym (c.if-not-room.true) ∙ c.has_room-room.ensures) (omega flags)
 
 pub is_held-requires : goal.is_held-requires
 is_held-requires c = askable c.requires.between
 
 pub returns-then-is_held : goal.returns-then-is_held
-returns-then-is_held c = within_held c.requires _ _ c.is_held_lem.ensures c.if-is_held.true
+returns-then-is_held c = within_held c.requires _ _ c.is_held.ensures c.if-is_held.true
 
 pub returns-then-room : goal.returns-then-room
-returns-then-room c = within_room c.requires _ _ c.is_held_lem.ensures c.if-is_held.false (sym c.if-room.true ∙ c.has_room-room.ensures)
+returns-then-room c = within_room c.requires _ _ c.is_held.ensures c.if-is_held.false (sym c.if-room.true ∙ c.has_room-room.ensures)
 
 pub overflow_add-frag : goal.overflow_add-frag
 overflow_add-frag c = omega (arith, within_sized c.requires)
@@ -37,7 +37,7 @@ pub offset_bounds-frag-n-2 : goal.offset_bounds-frag-n-2
 offset_bounds-frag-n-2 c = omega (arith, within_sized c.requires)
 
 pub bounds-frag-n-2 : goal.bounds-frag-n-2
-bounds-frag-n-2 c = omega (arith, within_sized c.requires, c.is_held_lem.ensures.apart.same_long)
+bounds-frag-n-2 c = omega (arith, within_sized c.requires, c.is_held.ensures.apart.same_long)
 
 pub returns : goal.returns
-returns c = within_full c.requires _ _ c.is_held_lem.ensures c.if-is_held.false (sym c.if-room.false ∙ c.has_room-room.ensures)
+returns c = within_full c.requires _ _ c.is_held.ensures c.if-is_held.false (sym c.if-room.false ∙ c.has_room-room.ensures)
