@@ -12,7 +12,7 @@ slice_bounds-take-end-2 c = sym (length-take-le c.tell_to-end.result _ (omega (a
 
 pub returns-in-On : goal.returns-in-On
 returns-in-On c =
-    let k = (rw c.in-On.is at c.take.ensures) in feed_on _ _ _ _ c.args.len _ _ (omega arith) _ c.tell_to-end.ensures.0 _ k refl _ _ c.wrapping_add_usize.ensures c.carry.ensures
+    let k = (rw c.in-On.is at c.take.ensures) in feed_on _ _ _ _ c.args.len _ _ (omega arith) _ c.tell_to-end.ensures.0 _ k refl _ _ c.wrapping_add_usize.ensures.value c.carry.ensures
 
 pub returns-in-Refused : goal.returns-in-Refused
 returns-in-Refused c =
