@@ -41,6 +41,7 @@ fn unopened(error: io::Error) -> Heard
 }
 
 // What is heard of a read that failed, or put so many bytes into the buffer: none at the end of the file, and never more than there is room for.
+#[tactic(auto, using(crate::proofs::Laws::heard_failed, crate::proofs::Laws::heard_more, crate::proofs::Laws::heard_end, crate::proofs::Laws::heard_bytes))]
 fn heard(failed: bool, room: usize, count: usize) -> Heard
     ensures { result ≡ heard_of failed room count }
 {
