@@ -1,8 +1,9 @@
 // Prints the report on the file links.sev. What is printed is worked out by `telling`, which is told what each read answered.
 #![tactic(auto)]
 
-ghost use Rattle.std.specs.Prelude.{◌≡◌, length};
-ghost use Rattle.report.specs.Reading.{Silent, heard_of, Hears};
+ghost use Rattle.std.specs.Prelude.{◌≡◌, length, IfOk, OnErr, IsTrue};
+ghost use Rattle.std.specs.Io.KnownBytes.{Appends};
+ghost use Rattle.report.specs.Reading.{Silent, heard_of, Hears, Gives};
 
 use std::fs::File;
 use std::io;
@@ -64,7 +65,9 @@ fn hear<F: Read>(
     have: usize,
     last: &mut io::Error,
 ) -> Heard
-    ensures { Hears have buffer.old result buffer.new }
+    ensures hears { Hears have buffer.old result buffer.new }
+    ensures gives { IfOk file.old (λ f. IfOk file.new (λ f'. Gives (F.remaining f) (F.remaining f') have result buffer.new)) }
+    ensures silent { OnErr file.old (Silent result) }
 {
     match file {
         Err(error) => {
@@ -75,8 +78,10 @@ fn hear<F: Read>(
     }
 }
 
+// The same of a file that is open.
 fn hear_file<F: Read>(file: &mut F, buffer: &mut [u8], have: usize, last: &mut io::Error) -> Heard
-    ensures { Hears have buffer.old result buffer.new }
+    ensures hears { Hears have buffer.old result buffer.new }
+    ensures gives { Gives (F.remaining file.old) (F.remaining file.new) have result buffer.new }
 {
     if have >= buffer.len() {
         return Heard::Failed;
@@ -141,7 +146,9 @@ fn tell_list<R: Files>(
 }
 
 // Writes all of the text, or stops at the first write that takes nothing or fails: then it answers false.
-fn write_all<W: Write>(out: &mut W, text: &[u8], last: &mut io::Error) -> bool {
+fn write_all<W: Write>(out: &mut W, text: &[u8], last: &mut io::Error) -> bool
+    ensures { IsTrue result → Appends (W.contents out.old) (W.contents out.new) text.now }
+{
     let mut done = 0;
     while done < text.len() {
         match out.write(&text[done..]) {
