@@ -2,7 +2,7 @@
 -- function of the bytes that each pass read; a run (Run.antt) is calls with what was read behind the front of the buffer. The answers are those of the promise of
 -- `telling::tell`, which every answer of the code meets.
 -- Assumes nothing.
-use Rattle.std.specs.Prelude.{ℕ, suc, ◌+◌, ◌≤◌, List, [], ◌∷◌, ◌++◌, ◌⊎◌, ◌≡◌, refl, T, length}
+use Rattle.std.specs.Prelude.{ℕ, suc, ◌≤◌, List, [], ◌∷◌, ◌++◌, ◌⊎◌, ◌≡◌, refl, T, length}
 use Rattle.std.proofs.Common.{inl, inr, sym, ap, ◌∙◌}
 use Rattle.base.specs.Answer.{gives}
 use Rattle.base.specs.Link.{Link}

@@ -1,6 +1,6 @@
 -- The test of the tables, refusal 11, clause by clause in document 01's order. Definitions only.
 -- Assumes nothing.
-use Rattle.std.specs.Prelude.{ℕ, suc, pred, ◌-◌, ◌*◌, Bool, true, false, ◌||◌, ◌&&◌, not, List, [], ◌∷◌, take, drop, ltb, leb, eqb}
+use Rattle.std.specs.Prelude.{ℕ, suc, pred, ◌-◌, ◌*◌, Bool, true, ◌||◌, ◌&&◌, not, List, [], ◌∷◌, take, drop, ltb, leb, eqb}
 -- 'Entries in one pass: at most 16,777,215.'
 pub use Rattle.lists.specs.List.{entries_most}
 use Rattle.base.specs.Link.{Link}

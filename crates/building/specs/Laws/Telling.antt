@@ -20,7 +20,7 @@ use Rattle.lists.specs.Laws.Link.{Accepted, link_read, link_told_lem}
 use Rattle.lists.specs.Laws.Block.{links_end, walked, next_given}
 use Rattle.base.specs.Truth.{T_true, T_false}
 use Rattle.base.specs.Link.{Link}
-use Rattle.rules.specs.Links.{between, linked}
+use Rattle.rules.specs.Links.{linked}
 use Rattle.rules.specs.Tables.{Tables, rank, note_of, placed, put_mark, put_held}
 use Rattle.rules.specs.Building.{pieces, better, note_link, hold, fill, hold_link, build_link, build_links}
 use Rattle.rules.proofs.Laws.Facts.{Underway, Loose}

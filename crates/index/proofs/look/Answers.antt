@@ -1,6 +1,5 @@
 -- `index::look` meets its contract: every slot on the way holds another word.
 -- Assumes nothing.
-use Prim.Native.Nat.{◌-◌}
 use native.Mathlib.Omega.{arith}
 use Rattle.index.specs.Laws.Index.{home_most, way_none, way_more, place_end}
 use Rattle.index.proofs.look.Goals as goal

@@ -1,8 +1,6 @@
 -- `lines::fragments` meets its contract.
 -- Assumes nothing.
 use Rattle.lines.specs.Laws.Lines.{lines_none, lines_next, lines_end}
-use Prim.Native.Nat.{◌-◌}
-use Rattle.lines.specs.Report.{fragment_at}
 use native.Mathlib.Omega.{arith}
 use Rattle.lines.proofs.fragments.Goals as goal
 

@@ -1,7 +1,6 @@
 -- `lists::cut` meets its contract: the cut is the same from every link on.
 -- Assumes nothing.
 use mathlib.Core.Path.{refl, sym, ap, ◌∙◌}
-use Prim.Native.Nat.{◌-◌}
 use native.Mathlib.Omega.{arith}
 use Rattle.lists.specs.List.{cut_block}
 use Rattle.lists.specs.Answers.{told_link}

@@ -1,6 +1,5 @@
 -- `lists::scan_from` meets its contract: the links told so far and what is left from `at` on give the whole answer; inside, how many of a link's numbers are read.
 -- Assumes nothing.
-use mathlib.Core.Logic.{⊎_elim}
 use mathlib.Core.Path.{◌≡◌, sym, ap, ◌∙◌}
 use Prim.Native.Nat.{◌-◌}
 use native.Mathlib.Omega.{arith}

@@ -1,7 +1,6 @@
 -- `lists::scan_from` meets its contract: the links told so far and what is left from `at` on give the whole answer; inside, how many of a link's numbers are read.
 use Prim.Native.Nat.{◌-◌}
 use lib.ListN.{length}
-use Rattle.numbers.specs.Answers.{told}
 use Rattle.lists.specs.Laws.Scan.{Halfway, Scanning}
 use Rattle.lists.proofs.scan_from.Given as goal
 

@@ -1,6 +1,6 @@
 -- `parts::carry` meets its contract.
 -- Assumes nothing.
-use Rattle.std.proofs.Common.{◌-◌, arith}
+use Rattle.std.proofs.Common.{arith}
 use Rattle.parts.specs.Steps.{carry_none, carry_length, carry_more, carry_all}
 use Rattle.parts.proofs.carry.Goals as goal
 

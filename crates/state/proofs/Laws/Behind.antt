@@ -10,14 +10,14 @@ use Rattle.std.proofs.lemmas.List.{length-replicate}
 use Rattle.std.proofs.Math.Seq.{take_at}
 use Rattle.base.specs.Pick.{pick_true, pick_false}
 use Rattle.base.specs.Truth.{T_dec, T_true, T_false, and_l, and_r, and_intro, eq_to_eqb}
-use Rattle.rules.specs.Search.{table, every}
+use Rattle.rules.specs.Search.{table}
 use Rattle.rules.specs.Tables.{Tables}
 use Rattle.rules.specs.Numbers.{turn, end, at_turn}
 use Rattle.rules.proofs.Laws.Search.{every_at, every_intro, table_length, table_at}
 use Rattle.rules.proofs.Laws.Tables.{SameForest}
 use Rattle.rules.proofs.Laws.SameNumbers.{same_turn, same_end, same_at_turn}
-use Rattle.state.specs.Layout.{words, stored, numbers, stored_in, section, turn_in, end_in, whose_in, numbers_of, behind}
-use Rattle.state.specs.Test.{is_numbered, asked, all_zero, numbered_at, numbers_fit}
+use Rattle.state.specs.Layout.{words, stored, stored_in, section, turn_in, end_in, whose_in, numbers_of, behind}
+use Rattle.state.specs.Test.{is_numbered, all_zero, numbered_at, numbers_fit}
 use Rattle.state.proofs.Laws.Lists.{parts, all_zeros, zeros_pass}
 use Rattle.state.proofs.Laws.Layout.{section_length}
 use Rattle.state.proofs.Laws.Held.{asked_use, asked_make}

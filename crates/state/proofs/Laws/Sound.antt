@@ -1,6 +1,6 @@
 -- What the test of the tables gives, and what passes it.
 -- Assumes nothing.
-use Rattle.std.specs.Prelude.{ℕ, ◌-◌, ◌*◌, ◌≤◌, ◌≡◌, refl, List, T, length, take, drop}
+use Rattle.std.specs.Prelude.{ℕ, ◌*◌, ◌≤◌, ◌≡◌, refl, List, T, length, take, drop}
 use Rattle.std.proofs.Common.{sym, ◌∙◌, arith, length-take}
 use Rattle.base.specs.Truth.{and_l, and_r, and_intro}
 use Rattle.rules.specs.Tables.{Tables}

@@ -1,7 +1,6 @@
 -- `writing::list_size` meets its contract: the size so far and the words from `i` on give the whole answer.
 -- Assumes nothing.
 use mathlib.Core.Path.{sym, ◌∙◌}
-use Prim.Native.Nat.{◌-◌}
 use native.Mathlib.Omega.{arith}
 use Rattle.writing.specs.Laws.Steps.{sizing_starts, size_refused, size_bad, size_on, size_odd, size_end, width_bound}
 use Rattle.writing.proofs.list_size.Goals as goal

@@ -1,7 +1,6 @@
 -- `writing::put_list` meets its contract: the words from `i` on, put at `at`, give what all of them give.
 -- Assumes nothing.
 use mathlib.Core.Path.{◌∙◌}
-use Prim.Native.Nat.{◌-◌}
 use Rattle.writing.specs.Laws.Steps.{putting_fits, putting_starts, putting_whole, putting_ends, putting_more, putting_on}
 use Rattle.writing.proofs.put_list.Goals as goal
 

@@ -1,6 +1,5 @@
 -- `adopting::adopting::place_all` meets its contract: the fragments below v are written.
 -- Assumes nothing.
-use Prim.Native.Nat.{◌-◌}
 use mathlib.Core.Path.{refl}
 use native.Mathlib.Omega.{arith}
 use lib.ListN.{length-set}

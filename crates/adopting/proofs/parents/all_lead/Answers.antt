@@ -1,6 +1,5 @@
 -- `adopting::parents::all_lead` meets its contract: the ways of all below v lead to roots.
 -- Assumes nothing.
-use Prim.Native.Nat.{◌-◌}
 use native.Mathlib.Omega.{arith}
 use borrow.Author.Count.{below_more}
 use Rattle.adopting.specs.Laws.Adopt.{all_lead, one_leads_not}

@@ -1,6 +1,5 @@
 -- `adopting::parents::inside` meets its contract: the parents below v are fragments.
 -- Assumes nothing.
-use Prim.Native.Nat.{◌-◌}
 use mathlib.Core.Path.{◌≡◌, sym, ◌∙◌, ap}
 use native.Mathlib.Omega.{arith}
 use Rattle.adopting.specs.Laws.Adopt.{inside_fails, inside_more}

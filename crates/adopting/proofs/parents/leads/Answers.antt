@@ -1,9 +1,7 @@
 -- `adopting::parents::leads` meets its contract: u is where i steps from v lead.
 -- Assumes nothing.
-use Prim.Native.Nat.{◌-◌}
 use mathlib.Core.Path.{sym}
 use native.Mathlib.Omega.{arith}
-use Rattle.rules.specs.Forest.{up}
 use Rattle.rules.proofs.Laws.Up.{up_zero}
 use Rattle.adopting.specs.Laws.Adopt.{way_more, way_root, way_before, way_ends}
 use Rattle.adopting.proofs.parents.leads.Goals as goal

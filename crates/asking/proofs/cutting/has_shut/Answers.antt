@@ -1,6 +1,6 @@
 -- `asking::cutting::has_shut` meets its contract: no shut child comes before i, one child at a time.
 -- Assumes nothing.
-use Prim.Native.Nat.{◌+◌, ◌-◌, ◌<◌}
+use Prim.Native.Nat.{◌+◌, ◌<◌}
 use mathlib.Core.Path.{◌≡◌, ap, ◌∙◌}
 use native.Mathlib.Omega.{arith}
 use Rattle.rules.specs.Numbers.{turn as turn_of, at_turn}

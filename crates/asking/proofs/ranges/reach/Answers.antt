@@ -1,6 +1,6 @@
 -- `asking::ranges::reach` meets its contract: the least note of the turns passed, one turn at a time.
 -- Assumes nothing.
-use Prim.Native.Nat.{◌+◌, ◌-◌}
+use Prim.Native.Nat.{◌+◌}
 use mathlib.Core.Path.{◌≡◌, ap, ◌∙◌}
 use native.Mathlib.Omega.{arith}
 use Rattle.rules.specs.Numbers.{at_turn}

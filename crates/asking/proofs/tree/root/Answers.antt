@@ -1,6 +1,6 @@
 -- `asking::tree::root` meets its contract: a root whose turn does not come behind that of v, one root after another.
 -- Assumes nothing.
-use Prim.Native.Nat.{ℕ, ◌-◌, ◌≤◌, ◌<◌}
+use Prim.Native.Nat.{ℕ, ◌≤◌, ◌<◌}
 use mathlib.Core.Path.{ap, ◌∙◌}
 use native.Mathlib.Omega.{arith}
 use Rattle.rules.specs.Numbers.{turn as turn_of, end as end_of}

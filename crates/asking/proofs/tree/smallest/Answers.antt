@@ -1,6 +1,6 @@
 -- `asking::tree::smallest` meets its contract: no fragment before u is in the tree.
 -- Assumes nothing.
-use Prim.Native.Nat.{ℕ, ◌<◌, ◌-◌}
+use Prim.Native.Nat.{◌<◌}
 use mathlib.Core.Path.{◌≡◌, sym, ap, ◌∙◌}
 use native.Mathlib.Decide.{ℕ_discrete}
 use native.Mathlib.Omega.{arith}

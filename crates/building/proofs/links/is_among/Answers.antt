@@ -1,6 +1,5 @@
 -- `building::links::is_among` meets its contract: what is left to look at gives the answer.
 -- Assumes nothing.
-use Prim.Native.Nat.{◌-◌}
 use mathlib.Core.Path.{refl, sym, ◌∙◌}
 use native.Mathlib.Omega.{arith}
 use Rattle.building.specs.Laws.Among.{among_more, among_hit, among_none}

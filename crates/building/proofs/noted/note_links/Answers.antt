@@ -1,6 +1,5 @@
 -- `building::noted::note_links` meets its contract: each link noted keeps what is noted.
 -- Assumes nothing.
-use Prim.Native.Nat.{◌-◌}
 use mathlib.Core.Path.{sym, ap, ◌∙◌}
 use native.Mathlib.Omega.{arith}
 use Rattle.lists.specs.Answers.{told_link}

@@ -1,6 +1,5 @@
 -- `building::noted::set_flags` meets its contract: so many of the held links are told.
 -- Assumes nothing.
-use Prim.Native.Nat.{◌-◌}
 use mathlib.Core.Path.{◌≡◌}
 use native.Mathlib.Omega.{arith}
 use Rattle.pieces.specs.Laws.Gather.{links_more}

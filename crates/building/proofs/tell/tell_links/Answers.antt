@@ -2,7 +2,6 @@
 -- Assumes nothing.
 use borrow.Author.Rules.{rules}
 use native.Mathlib.Omega.{arith}
-use Prim.Native.Nat.{◌-◌}
 use mathlib.Core.Path.{sym, ap, ◌∙◌}
 use Rattle.lists.specs.Answers.{told_link}
 use Rattle.building.specs.Laws.Telling.{midway_starts, midway_bad, midway_end, midway_link, midway_ends, midway_next}

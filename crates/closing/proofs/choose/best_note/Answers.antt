@@ -1,7 +1,6 @@
 -- `closing::choose::best_note` meets its contract: at each member it has the best note of those below.
 -- Assumes nothing.
 use mathlib.Core.List.{[]}
-use Prim.Native.Nat.{◌-◌}
 use mathlib.Core.Path.{◌≡◌}
 use native.Mathlib.Omega.{arith}
 use Rattle.state.specs.Layout.{bare}

@@ -1,6 +1,5 @@
 -- `closing::choose::first_noted` meets its contract: no member below v has the note.
 -- Assumes nothing.
-use Prim.Native.Nat.{◌-◌}
 use mathlib.Core.Path.{◌≡◌}
 use native.Mathlib.Omega.{arith}
 use Rattle.closing.specs.Laws.Members.{along_first, along_next}

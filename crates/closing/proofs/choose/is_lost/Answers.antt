@@ -1,6 +1,5 @@
 -- `closing::choose::is_lost` meets its contract: no member below v carries a mark.
 -- Assumes nothing.
-use Prim.Native.Nat.{◌-◌}
 use mathlib.Core.Path.{◌≡◌}
 use native.Mathlib.Omega.{arith}
 use Rattle.closing.specs.Laws.Members.{along_first, along_next}

@@ -1,6 +1,5 @@
 -- `closing::closing::all_placed` meets its contract: no fragment below v is unplaced.
 -- Assumes nothing.
-use Prim.Native.Nat.{◌-◌}
 use mathlib.Core.Path.{◌≡◌}
 use native.Mathlib.Omega.{arith}
 use borrow.Author.Count.{below_more}

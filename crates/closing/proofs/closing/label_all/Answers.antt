@@ -1,8 +1,7 @@
 -- `closing::closing::label_all` meets its contract: after v turns the fragments below v have their labels.
 -- Assumes nothing.
-use Prim.Native.Nat.{◌-◌}
 use native.Mathlib.Omega.{arith}
-use lib.ListN.{length, length-set}
+use lib.ListN.{length-set}
 use Rattle.closing.specs.Laws.Ending.{labelling_none, labelling_more, labelling_all}
 use Rattle.closing.proofs.closing.label_all.Goals as goal
 

@@ -1,8 +1,7 @@
 -- `closing::closing::place_all` meets its contract: after p turns the pieces with smallest member below p are placed.
 -- Assumes nothing.
-use Prim.Native.Nat.{◌<◌, ◌-◌}
+use Prim.Native.Nat.{◌<◌}
 use mathlib.Core.Path.{◌≡◌, sym, ◌∙◌}
-use mathlib.Core.Logic.{⊎_elim}
 use native.Mathlib.Omega.{arith}
 use Rattle.closing.specs.Laws.Placing.{placing_none, placing_wide, placing_due, placing_on, placing_past, placing_all}
 use Rattle.closing.proofs.closing.place_all.Goals as goal
@@ -30,12 +29,12 @@ loop-p-preserved c =
     let k : l.p < c.args.n = omega arith in
     elim c.if-is_due.branch [
       | then-is_due w ↦ (
-          omega arith,
-          λ h₀ W.
-              let P = l.invariant.1 h₀ W in
-              let e = sym w.if-is_due.true ∙ d in
-              rw w.frag-is (placing_on _ _ _ _ _ _ _ W P _ e (w.place_piece.ensures h₀ (placing_due _ _ _ _ _ _ _ W P k e)))
-        )
+        omega arith,
+        λ h₀ W.
+            let P = l.invariant.1 h₀ W in
+            let e = sym w.if-is_due.true ∙ d in
+            rw w.frag-is (placing_on _ _ _ _ _ _ _ W P _ e (w.place_piece.ensures h₀ (placing_due _ _ _ _ _ _ _ W P k e))),
+      )
       | else-is_due w ↦ (omega arith, λ h₀ W. rw w.frag-is (placing_past _ _ _ _ _ _ _ W (l.invariant.1 h₀ W) (sym w.if-is_due.false ∙ d)))
     ]
 

@@ -1,6 +1,5 @@
 -- `closing::members::size_of` meets its contract: at each member those below are counted.
 -- Assumes nothing.
-use Prim.Native.Nat.{◌-◌}
 use mathlib.Core.Path.{◌≡◌}
 use native.Mathlib.Omega.{arith}
 use Rattle.closing.specs.Laws.Members.{along_first, along_next}

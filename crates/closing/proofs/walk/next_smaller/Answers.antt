@@ -1,7 +1,6 @@
 -- `closing::walk::next_smaller` meets its contract: each that it goes past is placed.
 -- Assumes nothing.
 use Rattle.closing.specs.Laws.Seeking.{start_next, smaller_more, seek_end, seek_in}
-use Prim.Native.Nat.{◌-◌}
 use native.Mathlib.Omega.{arith}
 use Rattle.closing.proofs.walk.next_smaller.Goals as goal
 

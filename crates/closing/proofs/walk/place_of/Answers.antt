@@ -1,7 +1,6 @@
 -- `closing::walk::place_of` meets its contract: the place stands in the half that is left.
 -- Assumes nothing.
 use Rattle.closing.specs.Laws.Seeking.{halved_none, halved_low, halved_high, halved_found}
-use Prim.Native.Nat.{◌-◌}
 use native.Mathlib.Omega.{arith}
 use Rattle.closing.proofs.walk.place_of.Goals as goal
 

@@ -1,11 +1,10 @@
 -- `differing::ends::ends_fit` meets its contract: what is left to look at gives the answer.
 -- Assumes nothing.
-use Prim.Native.Nat.{◌-◌}
 use mathlib.Core.Path.{sym, ap, ◌∙◌}
 use native.Mathlib.Omega.{arith}
 use Rattle.state.specs.Layout.{forest_in}
 use Rattle.state.specs.Test.{ends_fit}
-use Rattle.differing.specs.Laws.Links.{left, left_whole, ends_more, ends_off, ends_all}
+use Rattle.differing.specs.Laws.Links.{left_whole, ends_more, ends_off, ends_all}
 use Rattle.differing.proofs.ends.ends_fit.Goals as goal
 
 pub loop-i-init : goal.loop-i-init

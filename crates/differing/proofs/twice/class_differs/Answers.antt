@@ -1,6 +1,5 @@
 -- `differing::twice::class_differs` meets its contract: batch by batch, the words of the class before it stand nowhere else.
 -- Assumes nothing.
-use Prim.Native.Nat.{◌-◌}
 use native.Mathlib.Omega.{arith}
 use Rattle.differing.specs.Laws.Batches.{indexed_open, noted_twice, batchable, compared_none, compared_all, compared_twice, compared_more}
 use Rattle.differing.proofs.twice.class_differs.Goals as goal

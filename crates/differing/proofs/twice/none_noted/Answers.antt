@@ -1,6 +1,5 @@
 -- `differing::twice::none_noted` meets its contract: none of the words of the class looked up so far is noted.
 -- Assumes nothing.
-use Prim.Native.Nat.{◌-◌}
 use mathlib.Core.Path.{◌∙◌}
 use native.Mathlib.Omega.{arith}
 use Rattle.differing.specs.Laws.Batches.{missed_none, missed_more, misses_one, misses_none}

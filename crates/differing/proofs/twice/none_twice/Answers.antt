@@ -1,6 +1,6 @@
 -- `differing::twice::none_twice` meets its contract: class by class, the words of those before it stand nowhere else.
 -- Assumes nothing.
-use Prim.Native.Nat.{◌+◌, ◌-◌, ◌*◌}
+use Prim.Native.Nat.{◌+◌, ◌*◌}
 use native.Mathlib.Omega.{arith}
 use Rattle.differing.specs.Laws.Batches.{few_classes, sifted_none, sifted_all, sifted_twice, sifted_more}
 use Rattle.differing.proofs.twice.none_twice.Goals as goal

@@ -1,6 +1,6 @@
 -- `differing::twice::note_batch` meets its contract: the words of the class so far are noted, and each finds an empty slot.
 -- Assumes nothing.
-use Prim.Native.Nat.{◌-◌, ◌<◌}
+use Prim.Native.Nat.{◌<◌}
 use mathlib.Core.Path.{◌∙◌}
 use native.Mathlib.Omega.{arith}
 use Rattle.index.specs.Laws.Index.{outside_none, outside_set}

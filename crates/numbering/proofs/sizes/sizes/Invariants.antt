@@ -1,5 +1,5 @@
 -- `numbering::sizes::sizes` meets its contract.
-use Prim.Native.Nat.{◌-◌, ◌≤◌}
+use Prim.Native.Nat.{◌≤◌}
 use Rattle.numbering.specs.Passes.{Growing}
 use Rattle.numbering.proofs.sizes.sizes.Given as goal
 

@@ -1,6 +1,5 @@
 -- `numbering::turns::count_passed` meets its contract.
 -- Assumes nothing.
-use Prim.Native.Nat.{◌-◌}
 use native.Mathlib.Omega.{arith}
 use lib.ListN.{length-set}
 use Rattle.numbering.specs.Laws.Passed.{passing_none, passing_whole, seat_small, size_small, passing_turn, passing_all}

@@ -1,7 +1,6 @@
 -- `numbering::turns::turns` meets its contract.
 -- Assumes nothing.
 use Rattle.numbering.specs.Laws.Turns.{turning_none, turning_next, turning_whole, turning_small, turning_turn, turning_all}
-use Prim.Native.Nat.{◌-◌}
 use native.Mathlib.Omega.{arith}
 use Rattle.numbering.proofs.turns.turns.Goals as goal
 

@@ -1,6 +1,5 @@
 -- `pieces::pieces::gather` meets its contract: after i turns the first i links stand gathered.
 -- Assumes nothing.
-use Prim.Native.Nat.{◌-◌}
 use mathlib.Core.Path.{◌≡◌}
 use native.Mathlib.Omega.{arith}
 use Rattle.pieces.specs.Laws.Gather.{gathers_none, gathers_more}

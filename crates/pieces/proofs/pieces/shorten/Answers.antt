@@ -1,6 +1,5 @@
 -- `pieces::pieces::shorten` meets its contract: after v turns the fragments below v point to the smallest members.
 -- Assumes nothing.
-use Prim.Native.Nat.{◌-◌}
 use native.Mathlib.Omega.{arith}
 use Rattle.pieces.specs.Laws.Gathered.{shortening_none, shortening_down, shortening_own, shortening_more, shortening_all}
 use Rattle.pieces.proofs.pieces.shorten.Goals as goal

@@ -1,6 +1,5 @@
 -- `pieces::quota::quota_fits` meets its contract: after p turns the pieces with smallest member below p keep their quota.
 -- Assumes nothing.
-use Prim.Native.Nat.{◌-◌}
 use native.Mathlib.Omega.{arith}
 use Rattle.pieces.specs.Laws.Check.{quota_none, quota_more, quota_off, quota_all}
 use Rattle.pieces.proofs.quota.quota_fits.Goals as goal

@@ -1,7 +1,6 @@
 -- `reaches::judge::mark_cuts` meets its contract.
 -- Assumes nothing.
 use Rattle.reaches.specs.Laws.Judged.{cuts_none, cuts_fit, cuts_turn, cuts_all}
-use Prim.Native.Nat.{◌-◌}
 use native.Mathlib.Omega.{arith}
 use Rattle.reaches.proofs.judge.mark_cuts.Goals as goal
 

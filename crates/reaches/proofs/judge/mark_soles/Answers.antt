@@ -1,7 +1,6 @@
 -- `reaches::judge::mark_soles` meets its contract.
 -- Assumes nothing.
 use Rattle.reaches.specs.Laws.Judged.{soles_none, soles_fit, soles_turn, soles_all}
-use Prim.Native.Nat.{◌-◌}
 use native.Mathlib.Omega.{arith}
 use Rattle.reaches.proofs.judge.mark_soles.Goals as goal
 

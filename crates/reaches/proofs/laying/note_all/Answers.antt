@@ -1,7 +1,6 @@
 -- `reaches::laying::note_all` meets its contract.
 -- Assumes nothing.
 use Rattle.reaches.specs.Laws.Passes.{low_none, low_small, low_turn, low_all}
-use Prim.Native.Nat.{◌-◌}
 use native.Mathlib.Omega.{arith}
 use Rattle.reaches.proofs.laying.note_all.Goals as goal
 

@@ -1,7 +1,6 @@
 -- `reaches::laying::own_all` meets its contract.
 -- Assumes nothing.
 use Rattle.reaches.specs.Laws.Passes.{own_none, own_turn, own_all}
-use Prim.Native.Nat.{◌-◌}
 use native.Mathlib.Omega.{arith}
 use Rattle.reaches.proofs.laying.own_all.Goals as goal
 

@@ -1,7 +1,6 @@
 -- `reaches::sink::fall` meets its contract.
 -- Assumes nothing.
 use Rattle.reaches.specs.Laws.Passes.{falling_none, falling_next, falling_fit, falling_turn, falling_all}
-use Prim.Native.Nat.{◌-◌}
 use native.Mathlib.Omega.{arith}
 use Rattle.reaches.proofs.sink.fall.Goals as goal
 

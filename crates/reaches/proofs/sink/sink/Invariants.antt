@@ -1,5 +1,5 @@
 -- `reaches::sink::sink` meets its contract.
-use Prim.Native.Nat.{◌-◌, ◌≤◌}
+use Prim.Native.Nat.{◌≤◌}
 use Rattle.reaches.specs.Laws.Passes.{Sinking}
 use Rattle.reaches.proofs.sink.sink.Given as goal
 

@@ -1,11 +1,8 @@
 -- `reading::closing::all_seen` meets its contract: the parent links below v were seen.
 -- Assumes nothing.
-use Prim.Native.Nat.{◌-◌}
 use mathlib.Core.Path.{◌≡◌, sym, ◌∙◌, ap}
-use mathlib.Core.Bool.{true}
 use native.Mathlib.Omega.{arith}
 use Rattle.rules.specs.Search.{every}
-use Rattle.rules.specs.Reading.{seen}
 use Rattle.state.proofs.Laws.Tests.{every_none, every_more, every_fails}
 use Rattle.reading.proofs.closing.all_seen.Goals as goal
 

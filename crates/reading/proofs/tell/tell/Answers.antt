@@ -1,6 +1,5 @@
 -- `reading::tell::tell` meets its contract: what is left to read from here gives the whole.
 -- Assumes nothing.
-use Prim.Native.Nat.{◌-◌}
 use mathlib.Core.Path.{sym, ap, ◌∙◌}
 use native.Mathlib.Omega.{arith}
 use Rattle.lists.specs.Laws.Link.{link_told_lem}

@@ -1,10 +1,8 @@
 -- `state::words::clear` meets its contract: after each turn the words below i are cleared.
 -- Assumes nothing.
-use Prim.Native.Nat.{◌-◌}
 use mathlib.Core.Path.{refl, ◌∙◌}
 use native.Mathlib.Omega.{arith}
-use lib.ListN.{length, length-set}
-use Rattle.state.specs.Layout.{wiped}
+use lib.ListN.{length-set}
 use Rattle.state.proofs.Laws.Clear.{wiped_none, wiped_more, clear_ends}
 use Rattle.state.proofs.words.clear.Goals as goal
 

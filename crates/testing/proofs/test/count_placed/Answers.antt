@@ -1,6 +1,5 @@
 -- `testing::test::count_placed` meets its contract: after v turns those below v are counted.
 -- Assumes nothing.
-use Prim.Native.Nat.{◌-◌}
 use mathlib.Core.Path.{◌≡◌, ap, ◌∙◌}
 use native.Mathlib.Omega.{arith}
 use Rattle.rules.specs.Search.{count}

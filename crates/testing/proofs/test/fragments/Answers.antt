@@ -1,7 +1,5 @@
 -- `testing::test::fragments` meets its contract: after v turns the fragments below v fit.
 -- Assumes nothing.
-use Prim.Native.Nat.{◌-◌}
-use mathlib.Core.Bool.{true}
 use mathlib.Core.Path.{◌≡◌, sym, ap, ◌∙◌}
 use native.Mathlib.Omega.{arith}
 use Rattle.rules.specs.Search.{every}

@@ -1,7 +1,5 @@
 -- `testing::turns::numbers_fit` meets its contract: after v turns the words of the fragments below v fit.
 -- Assumes nothing.
-use Prim.Native.Nat.{◌-◌}
-use mathlib.Core.Bool.{true}
 use mathlib.Core.Path.{◌≡◌, sym, ap, ◌∙◌}
 use native.Mathlib.Omega.{arith}
 use Rattle.rules.specs.Search.{every}

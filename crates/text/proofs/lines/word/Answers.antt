@@ -1,6 +1,5 @@
 -- `text::lines::word` meets its contract.
 -- Assumes nothing.
-use Prim.Native.Nat.{◌-◌}
 use native.Mathlib.Omega.{arith}
 use Rattle.text.specs.Laws.Put.{put_none, word_more, word_done}
 use Rattle.text.proofs.lines.word.Goals as goal
