@@ -11,12 +11,12 @@ use welmocant::{block, put_number};
 
 /// What the program prints, and what it says on standard error, where `put` has put what it finds and `told` is said to a disk.
 fn ran(name: &str, told: &[(&str, &str)], put: impl Fn(&Path)) -> (String, String) {
-    let program = Path::new(env!("CARGO_MANIFEST_DIR")).join("../target/bin/report");
+    let program = Path::new(env!("CARGO_MANIFEST_DIR")).join("../crates/report/out/report");
     let folder: PathBuf = std::env::temp_dir().join(format!("welmocant-{}-{name}", std::process::id()));
     std::fs::create_dir_all(&folder).unwrap();
     let folder = folder.canonicalize().unwrap();
     put(&folder.join("links.sev"));
-    let mut command = Command::new(program.canonicalize().expect("rt check report writes target/bin/report"));
+    let mut command = Command::new(program.canonicalize().expect("rt run in crates/report writes out/report"));
     command.current_dir(&folder).env("WELMOCANT_FILE", folder.join("links.sev")).envs(told.iter().copied());
     let out = command.output().unwrap();
     std::fs::remove_dir_all(&folder).unwrap();

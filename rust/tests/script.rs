@@ -25,8 +25,7 @@ impl Stand {
         let folder = std::env::temp_dir().join(format!("welmocant script {name} {}", std::process::id()));
         executable(&folder.join("report"), &fs::read_to_string(script()).unwrap());
         executable(&folder.join("bin/rt"), &format!("#!/bin/sh\n{rt}\n"));
-        executable(&folder.join("target/bin/report"), &format!("#!/bin/sh\n{program}\n"));
-        fs::create_dir_all(folder.join("target/log")).unwrap();
+        executable(&folder.join("crates/report/out/report"), &format!("#!/bin/sh\n{program}\n"));
         fs::write(folder.join("a list.sev"), [1]).unwrap();
         Stand(folder)
     }
@@ -64,7 +63,8 @@ fn ended(out: &Output, status: i32, printed: &str, said: &str) {
 fn the_example() {
     let root = script().parent().unwrap().to_path_buf();
     let stand = Stand::new("example", "exit 0", "");
-    fs::copy(root.join("target/bin/report"), stand.0.join("target/bin/report")).expect("rt check report writes target/bin/report");
+    let program = "crates/report/out/report";
+    fs::copy(root.join(program), stand.0.join(program)).expect("rt run in crates/report writes out/report");
     std::os::unix::fs::symlink(stand.0.join("report"), stand.0.join("bin/linked")).unwrap();
     let mut command = Command::new(stand.0.join("bin/linked"));
     let out = command.arg(root.join("examples/square.sev")).current_dir("/").env("PATH", stand.path()).output().unwrap();
@@ -106,7 +106,7 @@ fn what_goes_wrong() {
     ended(&dies.call("a list.sev"), 3, "", "the program ended with status");
     let silent = Stand::new("silent", "exit 0", "exit 0");
     ended(&silent.call("a list.sev"), 3, "", "no report");
-    fs::remove_file(silent.0.join("target/bin/report")).unwrap();
+    fs::remove_file(silent.0.join("crates/report/out/report")).unwrap();
     ended(&silent.call("a list.sev"), 3, "", "is gone");
 }
 
@@ -115,8 +115,9 @@ fn what_goes_wrong() {
 #[test]
 fn progress() {
     let rt = "await() { i=0; while [ ! -e $1 ] && [ $i -lt 300 ]; do sleep 0.1; i=$((i + 1)); done; }\n\
-              cd target\n[ ! -e busy ] || exit 7\n[ ! -e end ] || exit 0\n\
-              touch busy\n: >log/numbers.out\nawait go\necho 'rt: numbers proved (3 s)' >log/numbers.out\nawait end\nrm busy";
+              cd ../../target\n[ ! -e busy ] || exit 7\n[ ! -e end ] || exit 0\n\
+              touch busy\necho 'rt: chose --jobs 2 for numbers'\nawait go\n\
+              echo 'checked numbers::width, 1 of 1'\necho 'crate numbers: modules loaded=1 checked=1'\necho 'logic=proved functions=1'\nawait end\nrm busy";
     let slow = Stand::new("slow", rt, "echo fragments 1");
     let run = || {
         let mut run = slow.command("a list.sev").stdout(Stdio::piped()).stderr(Stdio::piped()).spawn().unwrap();
@@ -130,7 +131,7 @@ fn progress() {
     let (second, mut waits) = run();
     assert_eq!(waits.next().unwrap(), "report: another run is proving the program: waiting for it");
     told("go");
-    assert_eq!(said.next().unwrap(), "report: numbers proved (3 s)");
+    assert_eq!(said.next().unwrap(), "report: numbers proved");
     told("end");
     for (run, mut rest) in [(first, said), (second, waits)] {
         let out = run.wait_with_output().unwrap();

@@ -1,5 +1,6 @@
 // Every call of document 01, in the stage that the state is in.
 #![tactic(auto)]
+
 ghost use Rattle.std.specs.Prelude.{◌≡◌};
 ghost use Rattle.state.specs.Take.{take_call};
 ghost use Rattle.state.specs.Close.{close_call};

@@ -1,4 +1,6 @@
 // A list file told in parts of any length: a buffer holds what is left of an unfinished link in front of the next part's bytes.
+#![tactic(auto)]
+
 ghost use Rattle.std.specs.Prelude.{◌≡◌, ◌≤◌, length};
 ghost use Rattle.parts.specs.Parts.{in_block, place_in, carried, open_part, tellable, feed_part};
 ghost use Rattle.parts.specs.Answers.{opened_told, fed_told};

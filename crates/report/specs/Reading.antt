@@ -1,6 +1,7 @@
 -- What is heard of a read, and what it leaves of the buffer. Definitions only.
 -- Assumes nothing.
-use Rattle.std.specs.Prelude.{ℕ, ◌+◌, ◌≤◌, Bool, List, ◌≡◌, ltb, eqb, length, take}
+use Rattle.std.specs.Prelude.{ℕ, ◌+◌, ◌≤◌, Bool, List, [], ◌≡◌, ltb, eqb, length, take, drop, Option}
+use Rattle.std.specs.Io.KnownBytes.{Consumes, IsAtEnd, Keeps}
 use Rattle.base.specs.Pick.{pick}
 use Rattle.telling.specs.declared.Heard.{Heard}
 use Rattle.telling.specs.declared.Heard.TheVariants.{Bytes, End, Failed, NoFile}
@@ -27,3 +28,11 @@ pub record Hears (have : ℕ) (b : List ℕ) (r : Heard) (b' : List ℕ) : Type 
   pub as_long : length b' ≡ length b
   pub front : take have b' ≡ take have b
   pub fits : Fits have r b'
+
+-- What is told of a file whose bytes are known: those told stand behind the first `have` and are the next that it had; none was left at the end; a read
+-- that failed took none; and a file that is open is never told as missing.
+abbrev pub Gives : (left left' : Option (List ℕ)) (have : ℕ) → Heard → List ℕ → Type 0
+Gives left left' have (Bytes count) b = Consumes left left' (take count (drop have b))
+Gives left left' have End b = Consumes left left' [] × IsAtEnd left'
+Gives left left' have Failed b = Keeps left left'
+Gives left left' have NoFile b = ⊥

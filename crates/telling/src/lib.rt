@@ -1,5 +1,7 @@
 // A list file told and reported without reading it: what was read is told, and the answer says what to do next. State, place in the file, what
 // is left of an unfinished number or link, and the step of the work travel in one record.
+#![tactic(auto)]
+
 ghost use Rattle.std.specs.Prelude.{◌≡◌, not, eqb};
 ghost use Rattle.numbers.specs.Answers.{told_end};
 ghost use Rattle.state.specs.Answers.{begun_told};

@@ -17,6 +17,7 @@ impl Stand {
     fn new() -> Self {
         let stand = Stand(Folder::new());
         let root = Path::new(env!("CARGO_MANIFEST_DIR")).join("../..");
+        fs::create_dir_all(stand.0.path("crates/c_calls")).unwrap();
         for file in ["install", "welmocant", "rust/welmocant/packages", "rust/welmocant/welmocant.1"] {
             let to = stand.0.path(file);
             fs::create_dir_all(to.parent().unwrap()).unwrap();
@@ -29,8 +30,8 @@ impl Stand {
                 std::os::unix::fs::symlink(at, stand.0.path("path").join(tool)).unwrap();
             }
         }
-        stand.tool("rt", "[ \"$*\" = 'staticlib c_calls' ] && mkdir -p target/staticlib && touch target/staticlib/proved");
-        stand.tool("cargo", "[ -e ../../target/staticlib/proved ] && mkdir -p target/release && echo the program >target/release/welmocant");
+        stand.tool("rt", "[ \"${PWD##*/} $*\" = 'c_calls lib' ] && mkdir -p out && touch out/proved");
+        stand.tool("cargo", "[ -e ../../crates/c_calls/out/proved ] && mkdir -p target/release && echo the program >target/release/welmocant");
         stand.tool("cc", "exit 1");
         stand.tool("dpkg-query", "echo 'install ok installed'");
         stand.tool("id", "echo 1000");
