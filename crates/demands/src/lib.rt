@@ -1,3 +1,3 @@
 #![tactic(auto)]
 
-// No code: what the letter demands, proved of runs of calls. See specs/Demands.antt.
+// No code: what the letter demands, proved of runs of calls. See proofs/Demands.antt.
