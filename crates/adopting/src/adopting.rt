@@ -54,12 +54,10 @@ fn place_all(frag: &mut [u32], parents: &[u32], n: usize)
     requires { Room n frag.old × Rooted n parents.now }
     ensures { Placed n parents.now n frag.old frag.new }
 {
-    let mut v = 0;
-    while v < n {
+    for v in 0..n {
         let rank = rank_of(frag, parents, n, v);
         frag[v] = parents[v];
         frag[n + v] = rank as u32;
-        v += 1;
     }
 }
 

@@ -11,14 +11,7 @@ fn inside(parents: &[u32], n: usize) -> bool
     requires { n ≤ length parents.now }
     ensures { result ≡ every (below n parents.now) n }
 {
-    let mut v = 0;
-    while v < n {
-        if n <= wide(parents[v]) {
-            return false;
-        }
-        v += 1;
-    }
-    true
+    parents[..n].iter().all(|&p| wide(p) < n)
 }
 
 // 'or parents run in a cycle of two or more': whether v's way leads to a root, or to one below v, whose way was followed before.
@@ -27,17 +20,12 @@ fn leads(parents: &[u32], n: usize, v: usize) -> bool
     ensures { Verdict n parents.now v result }
 {
     let mut u = v;
-    let mut i = 0;
-    while i < n {
+    for _ in 0..n {
         let p = wide(parents[u]);
-        if p == u {
-            return true;
-        }
-        if p < v {
+        if p == u || p < v {
             return true;
         }
         u = p;
-        i += 1;
     }
     wide(parents[u]) == u
 }
@@ -46,22 +34,12 @@ fn all_lead(parents: &[u32], n: usize) -> bool
     requires { Inside n parents.now }
     ensures { result ≡ adoptable n parents.now }
 {
-    let mut v = 0;
-    while v < n {
-        if !leads(parents, n, v) {
-            return false;
-        }
-        v += 1;
-    }
-    true
+    (0..n).all(|v| leads(parents, n, v))
 }
 
 pub(crate) fn may_adopt(parents: &[u32], n: usize) -> bool
     requires { n ≤ length parents.now }
     ensures { result ≡ adoptable n parents.now }
 {
-    if !inside(parents, n) {
-        return false;
-    }
-    all_lead(parents, n)
+    inside(parents, n) && all_lead(parents, n)
 }

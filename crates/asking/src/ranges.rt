@@ -1,21 +1,10 @@
 // The reach of a fragment, over the turns of those below it, and what it says of a link.
-ghost use Rattle.std.specs.Prelude.{◌≡◌, ◌<◌, min};
-ghost use Rattle.rules.specs.Reading.{lowest, reach as reaching, child_of, sole_below, sole as sole_of};
+ghost use Rattle.std.specs.Prelude.{◌≡◌, ◌<◌};
+ghost use Rattle.rules.specs.Reading.{reach as reaching, child_of, sole_below, sole as sole_of};
 ghost use Rattle.state.specs.Layout.{forest_in};
 ghost use Rattle.testing.specs.Whole.{Numbered};
 
 use tables::{end_at, level_of, low_of, parent_of, turn_at, whose_at};
-
-// The least so far, with u's note.
-fn lower(frag: &[u32], n: usize, u: usize, least: usize) -> usize
-    ensures { result ≡ min (lowest (forest_in n frag.now) u) least }
-{
-    let here = low_of(frag, n, u);
-    if least <= here {
-        return least;
-    }
-    here
-}
 
 // The least note of v and all below it.
 pub(crate) fn reach(frag: &[u32], n: usize, v: usize) -> usize
@@ -24,10 +13,8 @@ pub(crate) fn reach(frag: &[u32], n: usize, v: usize) -> usize
 {
     let end = end_at(frag, n, v);
     let mut least = low_of(frag, n, v);
-    let mut i = turn_at(frag, n, v) + 1;
-    while i < end {
-        least = lower(frag, n, whose_at(frag, n, i), least);
-        i += 1;
+    for i in turn_at(frag, n, v) + 1..end {
+        least = low_of(frag, n, whose_at(frag, n, i)).min(least);
     }
     least
 }
@@ -36,10 +23,7 @@ pub(crate) fn reach(frag: &[u32], n: usize, v: usize) -> usize
 fn is_child(frag: &[u32], n: usize, v: usize, c: usize) -> bool
     ensures { result ≡ child_of (forest_in n frag.now) v c }
 {
-    if parent_of(frag, n, c) != v {
-        return false;
-    }
-    c != v
+    parent_of(frag, n, c) == v && c != v
 }
 
 // Whether p is the parent of c, and nothing below c reaches higher.
@@ -47,18 +31,12 @@ fn sole_below(frag: &[u32], n: usize, p: usize, c: usize) -> bool
     requires { Numbered n frag.now × (c < n) }
     ensures { result ≡ sole_below n (forest_in n frag.now) p c }
 {
-    if !is_child(frag, n, p, c) {
-        return false;
-    }
-    reach(frag, n, c) == level_of(frag, n, c)
+    is_child(frag, n, p, c) && reach(frag, n, c) == level_of(frag, n, c)
 }
 
 pub(crate) fn is_sole(frag: &[u32], n: usize, a: usize, b: usize) -> bool
     requires { Numbered n frag.now × (a < n) × (b < n) }
     ensures { result ≡ sole_of n (forest_in n frag.now) a b }
 {
-    if sole_below(frag, n, a, b) {
-        return true;
-    }
-    sole_below(frag, n, b, a)
+    sole_below(frag, n, a, b) || sole_below(frag, n, b, a)
 }

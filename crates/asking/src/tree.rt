@@ -32,11 +32,7 @@ fn smallest(frag: &[u32], n: usize, v: usize) -> usize
     ensures { result ≡ piece_of n (forest_in n frag.now) v }
 {
     let top = root(frag, n, v);
-    let mut u: usize = 0;
-    while !is_above(frag, n, top, u) {
-        u += 1;
-    }
-    u
+    (0..v).find(|&u| is_above(frag, n, top, u)).unwrap_or(v)
 }
 
 // The answer about v.

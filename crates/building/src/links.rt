@@ -9,13 +9,7 @@ use tables::{high_end, low_end};
 fn is_same(c: usize, d: usize, a: usize, b: usize) -> bool
     ensures { result ≡ between (c, d) a b }
 {
-    if c == a {
-        return d == b;
-    }
-    if c == b {
-        return d == a;
-    }
-    false
+    if c == a { d == b } else { c == b && d == a }
 }
 
 // The link between a and b is among the held links from one place to another.
@@ -23,14 +17,12 @@ pub(crate) fn is_among(held: &[u32], from: usize, to: usize, a: usize, b: usize)
     requires { (from ≤ to) × (to ≤ length held.now) }
     ensures { result ≡ linked (held_links (to - from) (drop from held.now)) a b }
 {
-    let mut i = from;
-    while i < to {
+    for i in from..to {
         let c = low_end(held, i);
         let d = high_end(held, i);
         if is_same(c, d, a, b) {
             return true;
         }
-        i += 1;
     }
     false
 }

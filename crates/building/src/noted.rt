@@ -86,10 +86,8 @@ fn set_flags(frag: &mut [u32], held: &[u32], n: usize, count: usize)
     requires { Matching n count frag.old held.now }
     ensures { Noted n (held_links count held.now) frag.new × Apart n frag.old frag.new }
 {
-    let mut i = 0;
-    while i < count {
-        set_flag(frag, n, held[i]);
-        i += 1;
+    for &w in &held[..count] {
+        set_flag(frag, n, w);
     }
 }
 
@@ -109,10 +107,7 @@ fn note_one(frag: &mut [u32], n: usize, a: usize, b: usize) -> usize
     requires { Fresh n frag.old × Ends n a b }
     ensures { Fresh n frag.new × Apart n frag.old frag.new × (result ≤ 4 * n) }
 {
-    if frag[n + a] != 0 {
-        return 0;
-    }
-    if frag[n + b] != 0 {
+    if frag[n + a] != 0 || frag[n + b] != 0 {
         return 0;
     }
     let w = word_of(a, b);
@@ -132,17 +127,7 @@ fn note_one(frag: &mut [u32], n: usize, a: usize, b: usize) -> usize
 fn block_end(len: usize, at: usize, most: usize) -> usize
     ensures { result ≤ len }
 {
-    if len <= at {
-        return len;
-    }
-    let left = len - at;
-    if left <= most {
-        return len;
-    }
-    if left - most <= at / 2 {
-        return len;
-    }
-    at + at / 2 + most
+    at.saturating_add(at / 2).saturating_add(most).min(len)
 }
 
 // Links of a block from one byte to another are noted, until 4·n are.

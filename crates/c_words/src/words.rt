@@ -68,9 +68,9 @@ pub fn unpack(other: Stage, words: &[u32]) -> State
     State {
         n: word_at(words, 0),
         k: word_at(words, 1),
-        stage: stage,
+        stage,
         passes: word_at(words, 3),
-        entries: entries,
+        entries,
         held: word_at(words, 5),
         crossed: mark == 1,
     }
@@ -96,10 +96,7 @@ fn mark_word(mark: bool) -> u32
 fn word_for(x: usize) -> u32
     ensures { result ≡ word_for x }
 {
-    if x <= MOST {
-        return x as u32;
-    }
-    4294967295
+    x.min(MOST) as u32
 }
 
 // Writes a state into an array of words; one too short stays as it is.

@@ -22,10 +22,8 @@ fn label_all(frag: &mut [u32], n: usize)
     requires { Wide n frag.old }
     ensures { Labels n frag.old frag.new }
 {
-    let mut v = 0;
-    while v < n {
+    for v in 0..n {
         frag[LABEL * n + v] = next_or(v as u32, frag[POINTER * n + v]);
-        v += 1;
     }
 }
 
@@ -34,10 +32,7 @@ fn is_due(frag: &[u32], n: usize, p: usize) -> bool
     requires { Wide n frag.now × (p < n) }
     ensures { result ≡ due_at n p frag.now }
 {
-    if frag[n + p] != 0 {
-        return false;
-    }
-    frag[LABEL * n + p] as usize == p
+    frag[n + p] == 0 && frag[LABEL * n + p] as usize == p
 }
 
 // The pieces are placed by smallest member.
@@ -45,12 +40,10 @@ fn place_all(frag: &mut [u32], held: &[u32], n: usize, count: usize)
     requires { MayClose n count frag.old held.now }
     ensures { PlacesAll n count frag.old held.now frag.new }
 {
-    let mut p = 0;
-    while p < n {
+    for p in 0..n {
         if is_due(frag, n, p) {
             place_piece(frag, held, n, count, p);
         }
-        p += 1;
     }
 }
 
@@ -81,14 +74,7 @@ pub(crate) fn all_placed(frag: &[u32], n: usize) -> bool
     requires { Wide n frag.now }
     ensures { result ≡ done n (forest_in n frag.now) }
 {
-    let mut v = 0;
-    while v < n {
-        if frag[n + v] == 0 {
-            return false;
-        }
-        v += 1;
-    }
-    true
+    frag[n..2 * n].iter().all(|r| *r != 0)
 }
 
 // A pass ends: it is counted, and its entries are forgotten.

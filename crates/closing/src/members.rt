@@ -13,9 +13,7 @@ pub(crate) fn chain_members(frag: &mut [u32], n: usize)
     requires { Chainable n frag.old }
     ensures { Chains n frag.old frag.new }
 {
-    let mut v = n;
-    while v > 0 {
-        v -= 1;
+    for v in (0..n).rev() {
         let p = wide(frag[LABEL * n + v]);
         frag[MEMBER * n + v] = frag[FIRST * n + p];
         frag[FIRST * n + p] = v as u32 + 1;
@@ -28,10 +26,7 @@ pub(crate) fn next_member(frag: &[u32], n: usize, v: usize) -> usize
     ensures { Follows n v frag.now result }
 {
     let next = wide(frag[MEMBER * n + v]);
-    if next == 0 {
-        return n;
-    }
-    next - 1
+    if next == 0 { n } else { next - 1 }
 }
 
 // How many members the piece p has.

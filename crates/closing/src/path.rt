@@ -33,12 +33,11 @@ fn climb(frag: &mut [u32], n: usize, top: usize, deepest: usize)
     requires { Climbable n top deepest frag.old }
     ensures { Climbs n top deepest frag.old frag.new }
 {
+    let steps = frag[n + deepest] - frag[n + top];
     let mut v = deepest;
-    let mut left = frag[n + deepest] - frag[n + top];
-    while left > 0 {
+    for _ in 0..steps {
         copy(frag, n, 0, SAVED * n, v);
         v = frag[v] as usize;
-        left -= 1;
     }
     copy(frag, n, 0, SAVED * n, v);
 }

@@ -45,16 +45,15 @@ fn next_smaller(frag: &[u32], held: &[u32], n: usize, v: usize) -> usize
     requires { Seekable n v frag.now held.now }
     ensures { SeeksSmaller n v result frag.now held.now }
 {
+    let from = frag[SMALLER * n + v] as usize;
     let end = frag[START * n + (v + 1)] as usize;
-    let mut i = frag[SMALLER * n + v] as usize;
-    while i < end {
+    for i in from..end {
         let w = smaller_at(held, i);
         if frag[n + w] == 0 {
             return i;
         }
-        i += 1;
     }
-    i
+    end
 }
 
 // One more than the next unplaced one of the greater neighbours of v; 0 where the walk is through with them.
@@ -147,10 +146,7 @@ fn reach(frag: &mut [u32], n: usize, at: usize, x: usize, deepest: usize) -> usi
     let most = frag[n + deepest];
     put(frag, n, x, at, r);
     enter(frag, n, x);
-    if most < r {
-        return x;
-    }
-    deepest
+    if most < r { x } else { deepest }
 }
 
 // The whole walk from a top that is placed; the deepest member. At most `missing` members of its piece are not reached yet: it ends with the last of them.
@@ -166,14 +162,12 @@ pub(crate) fn walk(
     ensures { Walks n count top missing result frag.old held.now frag.new }
 {
     enter(frag, n, top);
-    let mut left = 2 * n;
     let mut at = top;
     let mut deepest = top;
-    while left > 0 {
+    for _ in 0..2 * n {
         if missing == 0 {
             return deepest;
         }
-        left -= 1;
         let x = next_of(frag, held, n, at);
         if x < n {
             deepest = reach(frag, n, at, x, deepest);

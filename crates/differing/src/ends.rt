@@ -26,14 +26,12 @@ pub(crate) fn ends_fit(frag: &[u32], held: &[u32], n: usize, count: usize) -> bo
     requires { count ≤ length held.now }
     ensures { result ≡ ends_fit n (forest_in n frag.now) (held_links count held.now) }
 {
-    let mut i = 0;
-    while i < count {
+    for i in 0..count {
         let a = low_end(held, i);
         let b = high_end(held, i);
         if !link_fits(frag, n, a, b) {
             return false;
         }
-        i += 1;
     }
     true
 }

@@ -30,11 +30,9 @@ fn note_batch(
     requires { Batchable at size from to classes frag.old held.now }
     ensures { Batches at size from to c classes frag.old held.now result frag.new }
 {
-    let mut i = from;
-    while i < to {
+    for i in from..to {
         let w = held[i];
         if class_of(classes, w) != c {
-            i += 1;
             continue;
         }
         let s = look(frag, at, size as u32, w);
@@ -45,9 +43,8 @@ fn note_batch(
             return 0;
         }
         frag[at + s] = w;
-        i += 1;
     }
-    i
+    to
 }
 
 fn is_noted(frag: &[u32], at: usize, size: usize, w: u32) -> bool
@@ -55,10 +52,7 @@ fn is_noted(frag: &[u32], at: usize, size: usize, w: u32) -> bool
     ensures { Recalls at size frag.now w result }
 {
     let s = look(frag, at, size as u32, w);
-    if s == size {
-        return false;
-    }
-    frag[at + s] != 0
+    s != size && frag[at + s] != 0
 }
 
 // None of the held words of class c from one place to another is noted.
@@ -75,17 +69,11 @@ fn none_noted(
     requires { Missable at size from to classes frag.now held.now }
     ensures { Misses at size from to c classes frag.now held.now result }
 {
-    let mut i = from;
-    while i < to {
+    for i in from..to {
         let w = held[i];
-        if class_of(classes, w) != c {
-            i += 1;
-            continue;
-        }
-        if is_noted(frag, at, size, w) {
+        if class_of(classes, w) == c && is_noted(frag, at, size, w) {
             return false;
         }
-        i += 1;
     }
     true
 }
@@ -123,12 +111,10 @@ pub(crate) fn none_twice(frag: &mut [u32], held: &[u32], n: usize, count: usize)
     ensures { Compares n count frag.old held.now result frag.new }
 {
     let classes = count / (8 * n + 1) + 1;
-    let mut c = 0;
-    while c < classes {
+    for c in 0..classes {
         if !class_differs(frag, held, n, count, c, classes) {
             return false;
         }
-        c += 1;
     }
     true
 }

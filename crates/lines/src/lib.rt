@@ -34,10 +34,8 @@ fn fragments(frag: &[u32], n: usize, out: &mut [u8], from: usize) -> usize
     ensures { Line (lines_to (fragment_at n (forest_in n frag.now)) n) (200 * n) from out.old result out.new }
 {
     let mut at = from;
-    let mut v: usize = 0;
-    while v < n {
+    for v in 0..n {
         at = fragment_at(frag, n, v, out, at);
-        v += 1;
     }
     at
 }

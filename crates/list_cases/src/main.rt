@@ -24,8 +24,8 @@ fn byte(rt: &impl Print, b: u8) -> io::Result<()> {
 }
 
 fn bytes(rt: &impl Print, s: &[u8]) -> io::Result<()> {
-    for i in 0..s.len() {
-        byte(rt, s[i])?;
+    for &b in s {
+        byte(rt, b)?;
     }
     Ok(())
 }
@@ -40,8 +40,8 @@ fn word(rt: &impl Print, w: u32) -> io::Result<()> {
 }
 
 fn words(rt: &impl Print, s: &[u32]) -> io::Result<()> {
-    for i in 0..s.len() {
-        word(rt, s[i])?;
+    for &w in s {
+        word(rt, w)?;
     }
     Ok(())
 }

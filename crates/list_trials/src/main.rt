@@ -159,8 +159,8 @@ fn second(n: u32, entries: u32, s: &[u8]) -> Scanned {
         links: 0,
         bad: 0,
     };
-    for i in 0..s.len() {
-        r = step(r, n, entries, s[i], i + 1);
+    for (i, &b) in s.iter().enumerate() {
+        r = step(r, n, entries, b, i + 1);
     }
     finished(r)
 }
@@ -299,18 +299,13 @@ fn damaged(n: u32, buffer: &mut [u8], end: usize, seed: u64) -> u32 {
 // Whether the links from `begins` on are the words, to the end.
 fn links_back(n: u32, words: &[u32], file: &[u8], begins: usize) -> bool {
     let mut at = begins;
-    let mut i: usize = 0;
-    while i + 1 < words.len() {
+    for &[u, v] in words.as_chunks::<2>().0 {
         match lists::link_at(n, 0, file, at) {
             Link::Ends(a, b, next) => {
-                if a != words[i] {
-                    return false;
-                }
-                if b != words[i + 1] {
+                if a != u || b != v {
                     return false;
                 }
                 at = next;
-                i += 2;
             }
             Link::Refused(_) => return false,
         }
@@ -420,7 +415,7 @@ fn trials() -> Tally {
         differ: 0,
     };
     let mut seed: u64 = 2026;
-    for i in 0..TRIALS {
+    for _ in 0..TRIALS {
         seed = next(seed);
         t = counted(t, trial(seed));
     }

@@ -27,8 +27,8 @@ fn wide(b: u8) -> u64
 }
 
 fn bytes(rt: &impl Print, s: &[u8]) -> io::Result<()> {
-    for i in 0..s.len() {
-        print!(rt; " {:02x}", wide(s[i]))?;
+    for &b in s {
+        print!(rt; " {:02x}", wide(b))?;
     }
     Ok(())
 }

@@ -35,9 +35,9 @@ fn byte(seed: u64) -> u8 {
 // Five bytes, of which a part is lent.
 fn block(seed: u64, s: &mut [u8]) {
     let mut now = seed;
-    for i in 0..s.len() {
+    for b in s.iter_mut() {
         now = next(now);
-        s[i] = byte(now);
+        *b = byte(now);
     }
 }
 
@@ -190,11 +190,9 @@ fn size(value: u32) -> usize {
 
 // Whether every byte but `count` from `from` on is aa.
 fn kept(s: &[u8], from: usize, count: usize) -> bool {
-    for i in 0..s.len() {
-        if s[i] != 170 {
-            if i < from || i - from >= count {
-                return false;
-            }
+    for (i, &b) in s.iter().enumerate() {
+        if b != 170 && (i < from || i - from >= count) {
+            return false;
         }
     }
     true
@@ -208,7 +206,7 @@ fn more(n: u64) -> u64 {
 fn trials(rt: &impl Print, write: bool, one: u64, two: u64) -> io::Result<()> {
     let mut met = [0u64; 16];
     let mut seed: u64 = 2026;
-    for i in 0..TRIALS {
+    for _ in 0..TRIALS {
         seed = next(seed);
         let k = (if write { writing(seed) } else { reading(seed) } % 16) as usize;
         met[k] = more(met[k]);

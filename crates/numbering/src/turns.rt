@@ -5,16 +5,16 @@ ghost use Rattle.testing.specs.Whole.{Whole};
 ghost use Rattle.numbering.specs.Passes.{Small, seat_of, Sized, Passing, turned_at, Turnable, Turns, Turned, Ends};
 
 use crate::sections::{LEVELS, SIZE};
-use crate::sizes::parent_in;
 use state::wide;
-use tables::{END, TURN, WHOSE};
+use tables::{END, TURN, WHOSE, parent_of};
 
 // The word that counts those below the ones beside v.
+#[tactic(auto, using(crate::specs::Laws::Sizes::parent_in))]
 fn seat(frag: &[u32], n: usize, v: usize) -> usize
     requires { Whole n frag.now × (v < n) }
     ensures { (result ≡ seat_of n (forest_in n frag.now) v) × (5 * n ≤ result) × (result < 7 * n) }
 {
-    let p = parent_in(frag, n, v);
+    let p = parent_of(frag, n, v);
     if p == v {
         return WHOSE * n;
     }
@@ -26,23 +26,22 @@ pub(crate) fn count_passed(frag: &mut [u32], n: usize)
     requires { Sized n frag.old }
     ensures { Passing n n frag.old frag.new }
 {
-    let mut v = 0;
-    while v < n {
+    for v in 0..n {
         let s = seat(frag, n, v);
         let passed = frag[s];
         let size = frag[SIZE * n + v];
         frag[TURN * n + v] = passed;
         frag[s] = passed + size + 1;
-        v += 1;
     }
 }
 
 // v comes behind its parent.
+#[tactic(auto, using(crate::specs::Laws::Sizes::parent_in))]
 fn turn_one(frag: &mut [u32], n: usize, v: usize)
     requires { Whole n frag.old × Small 4 n frag.old × (v < n) }
     ensures { frag.new ≡ turned_at n v frag.old }
 {
-    let p = parent_in(frag, n, v);
+    let p = parent_of(frag, n, v);
     if p == v {
         return;
     }
@@ -53,25 +52,22 @@ pub(crate) fn turns(frag: &mut [u32], n: usize)
     requires { Turnable n frag.old }
     ensures { Turns n frag.old frag.new }
 {
-    let mut i = 0;
-    while i < n {
+    for i in 0..n {
         let v = wide(frag[LEVELS * n + i]);
         turn_one(frag, n, v);
-        i += 1;
     }
 }
 
 // Where those below each fragment end, and whose each turn is.
+#[tactic(auto, using(crate::specs::Laws::Ends::ends_turn_small, crate::specs::Laws::Ends::ends_size_small))]
 pub(crate) fn ends(frag: &mut [u32], n: usize)
     requires { Turned n frag.old }
     ensures { Ends n n frag.old frag.new }
 {
-    let mut v = 0;
-    while v < n {
+    for v in 0..n {
         let turn = frag[TURN * n + v];
         let size = frag[SIZE * n + v];
         frag[END * n + v] = turn + size + 1;
         frag[WHOSE * n + turn as usize] = v as u32;
-        v += 1;
     }
 }

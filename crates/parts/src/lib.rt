@@ -27,12 +27,7 @@ fn carry(buffer: &mut [u8], from: usize, len: usize)
     requires { (from ≤ len) × (len ≤ length buffer.old) }
     ensures { buffer.new ≡ carried from len buffer.old }
 {
-    let count = len - from;
-    let mut i: usize = 0;
-    while i < count {
-        buffer[i] = buffer[from + i];
-        i += 1;
-    }
+    buffer.copy_within(from..len, 0);
 }
 
 // Reads the header from a file's first part, `len` bytes at the buffer's front, and moves what is behind it to the front.
@@ -66,22 +61,11 @@ fn tell_to(buffer: &[u8], len: usize, last: bool) -> usize
 }
 
 // A refusal that is met in a block.
+#[tactic(auto, unfolding(crate::specs::Parts::in_block))]
 fn in_block(number: u32) -> bool
     ensures { result ≡ in_block number }
 {
-    if number == 4 {
-        return true;
-    }
-    if number == 5 {
-        return true;
-    }
-    if number == 7 {
-        return true;
-    }
-    if number == 8 {
-        return true;
-    }
-    number == 12
+    matches!(number, 4 | 5 | 7 | 8 | 12)
 }
 
 // The place in the file of a refusal that was met in a block at byte `offset`.

@@ -23,23 +23,14 @@ const WORD: u64 = 4294967296;
 fn is_in(len: usize, n: usize, v: usize) -> bool
     ensures { result ≡ is_in len n v }
 {
-    if State::FRAGMENTS < n {
-        return false;
-    }
-    if len < State::WORDS * n {
-        return false;
-    }
-    v < n
+    n <= State::FRAGMENTS && State::WORDS * n <= len && v < n
 }
 
 // Whether the pointer of u leads to a smaller fragment.
 fn leads_on(word: u32, u: usize) -> bool
     ensures { result ≡ leads word u }
 {
-    if word == 0 {
-        return false;
-    }
-    word as usize <= u
+    word != 0 && word as usize <= u
 }
 
 // The smallest member of v's piece. Each fragment on the way points two steps on afterwards, so that the next way is shorter.
@@ -111,12 +102,10 @@ fn bind(frag: &mut [u32], n: usize, p: usize, q: usize)
 {
     if p == q {
         count_one(frag, n, p);
+    } else if p < q {
+        unite(frag, n, p, q);
     } else {
-        if p < q {
-            unite(frag, n, p, q);
-        } else {
-            unite(frag, n, q, p);
-        }
+        unite(frag, n, q, p);
     }
 }
 
@@ -140,12 +129,10 @@ pub(crate) fn gather(frag: &mut [u32], held: &[u32], n: usize, count: usize)
     requires { Gatherable n frag.old held.now count }
     ensures { Gathers n frag.old held.now count frag.new }
 {
-    let mut i = 0;
-    while i < count {
+    for i in 0..count {
         let a = low_end(held, i);
         let b = high_end(held, i);
         join(frag, n, a, b);
-        i += 1;
     }
 }
 
@@ -176,13 +163,9 @@ pub(crate) fn shorten(frag: &mut [u32], n: usize)
     requires { Shortable n frag.old }
     ensures { Shortens n frag.old frag.new }
 {
-    let mut v = 0;
-    while v < n {
-        if frag[POINTER * n + v] == 0 {
-            v += 1;
-            continue;
+    for v in 0..n {
+        if frag[POINTER * n + v] != 0 {
+            shorten_one(frag, n, v);
         }
-        shorten_one(frag, n, v);
-        v += 1;
     }
 }

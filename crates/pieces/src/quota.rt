@@ -27,12 +27,10 @@ fn quota_fits(frag: &[u32], n: usize, k: usize) -> bool
     requires { Pointing n frag.now × (0 < k) × (k ≤ room_most) }
     ensures { Tells n frag.now result (quota_fits n k) }
 {
-    let mut p = 0;
-    while p < n {
+    for p in 0..n {
         if !piece_fits(frag, n, k, p) {
             return false;
         }
-        p += 1;
     }
     true
 }

@@ -5,7 +5,6 @@ ghost use Rattle.state.specs.Layout.{forest_in};
 ghost use Rattle.reaches.specs.Judged.{Reached, Soles, cuts_at, cut_word, cut_one, Cuttable, Cuts};
 
 use crate::sections::{CHILD, CUT, LOW, SOLE};
-use crate::sink::parent_in;
 use state::wide;
 use tables::{level_of, parent_of};
 
@@ -27,10 +26,8 @@ pub(crate) fn mark_soles(frag: &mut [u32], n: usize)
     requires { Reached n frag.old }
     ensures { Soles n n frag.old frag.new }
 {
-    let mut v = 0;
-    while v < n {
+    for v in 0..n {
         frag[SOLE * n + v] = sole_word(frag, n, v);
-        v += 1;
     }
 }
 
@@ -56,11 +53,12 @@ fn cut_word(frag: &[u32], n: usize, p: usize, c: usize) -> u32
     frag[CUT * n + p]
 }
 
+#[tactic(auto, using(crate::specs::Laws::Passes::parent_in))]
 fn mark_cut(frag: &mut [u32], n: usize, c: usize)
     requires { Reached n frag.old × (c < n) }
     ensures { frag.new ≡ cut_one n c frag.old }
 {
-    let p = parent_in(frag, n, c);
+    let p = parent_of(frag, n, c);
     if p == c {
         return;
     }
@@ -72,9 +70,7 @@ pub(crate) fn mark_cuts(frag: &mut [u32], n: usize)
     requires { Cuttable n frag.old }
     ensures { Cuts n n frag.old frag.new }
 {
-    let mut c = 0;
-    while c < n {
+    for c in 0..n {
         mark_cut(frag, n, c);
-        c += 1;
     }
 }

@@ -14,14 +14,13 @@ use state::{State, clear, is_read};
 use tables::low_of;
 use testing::head;
 
+#[tactic(auto, using(crate::specs::Laws::Passes::low_small))]
 fn note_all(frag: &mut [u32], n: usize)
     requires { Ready n frag.old }
     ensures { Low n n frag.old frag.new }
 {
-    let mut v = 0;
-    while v < n {
+    for v in 0..n {
         frag[LOW * n + v] = low_of(frag, n, v) as u32;
-        v += 1;
     }
 }
 
@@ -29,10 +28,8 @@ fn own_all(frag: &mut [u32], n: usize)
     requires { Ready n frag.old }
     ensures { Own n n frag.old frag.new }
 {
-    let mut v = 0;
-    while v < n {
+    for v in 0..n {
         frag[PIECE * n + v] = v as u32;
-        v += 1;
     }
 }
 

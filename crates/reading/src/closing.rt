@@ -18,21 +18,16 @@ use testing::head;
 fn seen_at(frag: &[u32], n: usize, v: usize) -> bool
     ensures { result ≡ seen (forest_in n frag.now) v }
 {
-    if parent_of(frag, n, v) == v {
-        return true;
-    }
-    0 < mark_at(frag, n, v)
+    parent_of(frag, n, v) == v || 0 < mark_at(frag, n, v)
 }
 
 fn all_seen(frag: &[u32], n: usize) -> bool
     ensures { result ≡ every (seen (forest_in n frag.now)) n }
 {
-    let mut v = 0;
-    while v < n {
+    for v in 0..n {
         if !seen_at(frag, n, v) {
             return false;
         }
-        v += 1;
     }
     true
 }
@@ -41,10 +36,7 @@ fn all_seen(frag: &[u32], n: usize) -> bool
 fn holds(frag: &[u32], n: usize, crossed: bool) -> bool
     ensures { result ≡ (not crossed && every (seen (forest_in n frag.now)) n) }
 {
-    if crossed {
-        return false;
-    }
-    all_seen(frag, n)
+    !crossed && all_seen(frag, n)
 }
 
 // Refusal 9: the notes are cleared, and the numbers with them, and the stage is Built.

@@ -14,13 +14,7 @@ use tables::{LEVEL, MARK, NOTE, end_at, parent_of, turn_at};
 fn farther(note: u32, own: u32, other: u32) -> u32
     ensures { result ≡ max note (own - other) }
 {
-    if own <= other {
-        return note;
-    }
-    if own - other <= note {
-        return note;
-    }
-    own - other
+    note.max(own.saturating_sub(other))
 }
 
 // What v hears of a link to w.
@@ -56,10 +50,7 @@ fn read_link(frag: &mut [u32], n: usize, crossed: bool, a: usize, b: usize) -> b
     let crosses = apart(frag, n, a, b);
     hear(frag, n, a, b);
     hear(frag, n, b, a);
-    if crosses {
-        return true;
-    }
-    crossed
+    crosses || crossed
 }
 
 // The links of a block that was scanned. Returns whether the pass is false now.

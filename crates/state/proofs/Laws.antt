@@ -2,6 +2,7 @@
 -- Assumes nothing.
 pub mod Bounds
 pub mod Lists
+pub mod Ranges
 pub mod Clear
 pub mod Words
 pub mod Layout

@@ -83,13 +83,7 @@ fn refuse(number: u32, place: usize, text: &mut [u8]) -> Next
     ensures { said result text.new ≡ refusing number place text.old }
 {
     let size = size_of(lines::refusal_line(number, place, text));
-    Next::Refused(
-        Refusal {
-            number: number,
-            place: place,
-        },
-        size,
-    )
+    Next::Refused(Refusal { number, place }, size)
 }
 
 // Nothing is printed where a read failed.
@@ -177,34 +171,19 @@ fn feed(
 fn is_over(step: Step) -> bool
     ensures { result ≡ is_over step }
 {
-    match step {
-        Step::First => false,
-        Step::Head => false,
-        Step::Links => false,
-        Step::Over => true,
-    }
+    matches!(step, Step::Over)
 }
 
 fn is_links(step: Step) -> bool
     ensures { result ≡ is_links step }
 {
-    match step {
-        Step::First => false,
-        Step::Head => false,
-        Step::Links => true,
-        Step::Over => false,
-    }
+    matches!(step, Step::Links)
 }
 
 fn is_first(step: Step) -> bool
     ensures { result ≡ is_first step }
 {
-    match step {
-        Step::First => true,
-        Step::Head => false,
-        Step::Links => false,
-        Step::Over => false,
-    }
+    matches!(step, Step::First)
 }
 
 fn is_other(n: usize, size: usize) -> bool
@@ -233,13 +212,11 @@ fn enter(t: Telling, n: usize, frag: &mut [u32], held: &mut [u32]) -> Started
 }
 
 // Whether more bytes may mend what was refused: the bytes end inside the head, and the file has not ended.
+#[tactic(auto, unfolding(crate::specs::Tell::unfinished))]
 fn is_unfinished(number: u32, last: bool) -> bool
     ensures { result ≡ unfinished number last }
 {
-    if last {
-        return false;
-    }
-    number == 8
+    !last && number == 8
 }
 
 // Tells the links that stand at the buffer's front, where the head of the file has n.
@@ -259,8 +236,7 @@ fn enter_links(
             let links = Telling {
                 state: s,
                 step: Step::Links,
-                offset: t.offset,
-                have: t.have,
+                ..t
             };
             feed(links, frag, held, buffer, text, last)
         }
@@ -281,13 +257,10 @@ fn head(
 {
     match parts::open(buffer, t.have) {
         Opened::List(n, begins, have) => {
-            let s = t.state;
-            let step = t.step;
             let links = Telling {
-                state: s,
-                step: step,
                 offset: begins,
-                have: have,
+                have,
+                ..t
             };
             enter_links(links, n as usize, frag, held, buffer, text, last)
         }
@@ -343,13 +316,9 @@ fn give(
     if room - count < t.have {
         return refuse(3, 0, text);
     }
-    let s = t.state;
-    let step = t.step;
     let there = Telling {
-        state: s,
-        step: step,
-        offset: t.offset,
         have: t.have + count,
+        ..t
     };
     part(there, frag, held, buffer, text, last)
 }
@@ -358,23 +327,13 @@ fn give(
 fn was_read(heard: Heard) -> bool
     ensures { result ≡ was_read heard }
 {
-    match heard {
-        Heard::Bytes(_) => true,
-        Heard::End => true,
-        Heard::Failed => false,
-        Heard::NoFile => false,
-    }
+    matches!(heard, Heard::Bytes(_) | Heard::End)
 }
 
 fn is_end(heard: Heard) -> bool
     ensures { result ≡ is_end heard }
 {
-    match heard {
-        Heard::Bytes(_) => false,
-        Heard::End => true,
-        Heard::Failed => false,
-        Heard::NoFile => false,
-    }
+    matches!(heard, Heard::End)
 }
 
 fn count_in(heard: Heard) -> usize

@@ -25,20 +25,14 @@ fn stands(frag: &[u32], n: usize, v: usize) -> bool
         return false;
     }
     let above = rank_at(frag, n, p);
-    if above == 0 {
-        return false;
-    }
-    rank == above + 1
+    above != 0 && rank == above + 1
 }
 
 // Neither note nor mark.
 fn is_clear(frag: &[u32], n: usize, v: usize) -> bool
     ensures { result ≡ clear_at (forest_in n frag.now) v }
 {
-    if note_at(frag, n, v) != 0 {
-        return false;
-    }
-    mark_at(frag, n, v) == 0
+    note_at(frag, n, v) == 0 && mark_at(frag, n, v) == 0
 }
 
 // A mark is 0 or 1 and not on a root; in Read it is on every other fragment.
@@ -66,13 +60,7 @@ fn waits(frag: &[u32], n: usize, v: usize) -> bool
         return false;
     }
     let note = note_at(frag, n, v);
-    if note == 0 {
-        return true;
-    }
-    if n < note {
-        return false;
-    }
-    rank_at(frag, n, note - 1) != 0
+    note == 0 || (note <= n && rank_at(frag, n, note - 1) != 0)
 }
 
 // The note and the mark of a placed fragment: cleared, or those of a reading pass.
@@ -83,21 +71,13 @@ fn noted(frag: &[u32], n: usize, stage: Stage, v: usize) -> bool
         return is_clear(frag, n, v);
     }
     // 'a reading note is at most its fragment's level'
-    if level_of(frag, n, v) < note_at(frag, n, v) {
-        return false;
-    }
-    marked(frag, n, is_read(stage), v)
+    note_at(frag, n, v) <= level_of(frag, n, v) && marked(frag, n, is_read(stage), v)
 }
 
 fn reads(g: Stage) -> bool
     ensures { result ≡ is_numbered g }
 {
-    match g {
-        Stage::Building => false,
-        Stage::Built => false,
-        Stage::Reading => true,
-        Stage::Read => true,
-    }
+    matches!(g, Stage::Reading | Stage::Read)
 }
 
 // What the test asks of one fragment. Only Building has one that waits.
@@ -105,43 +85,22 @@ fn fragment(frag: &[u32], n: usize, stage: Stage, v: usize) -> bool
     ensures { result ≡ fragment_fits stage n (forest_in n frag.now) v }
 {
     if rank_at(frag, n, v) == 0 {
-        if !is_building(stage) {
-            return false;
-        }
-        return waits(frag, n, v);
+        return is_building(stage) && waits(frag, n, v);
     }
-    if !stands(frag, n, v) {
-        return false;
-    }
-    noted(frag, n, stage, v)
+    stands(frag, n, v) && noted(frag, n, stage, v)
 }
 
 fn fragments(frag: &[u32], n: usize, stage: Stage) -> bool
     ensures { result ≡ every (fragment_fits stage n (forest_in n frag.now)) n }
 {
-    let mut v = 0;
-    while v < n {
-        if !fragment(frag, n, stage, v) {
-            return false;
-        }
-        v += 1;
-    }
-    true
+    (0..n).all(|v| fragment(frag, n, stage, v))
 }
 
 // How many fragments are placed.
 pub fn count_placed(frag: &[u32], n: usize) -> usize
     ensures { result ≡ count (is_placed (forest_in n frag.now)) n }
 {
-    let mut sum = 0;
-    let mut v = 0;
-    while v < n {
-        if rank_at(frag, n, v) != 0 {
-            sum += 1;
-        }
-        v += 1;
-    }
-    sum
+    (0..n).filter(|&v| rank_at(frag, n, v) != 0).count()
 }
 
 // A clause that is asked only where a test holds.
@@ -191,10 +150,7 @@ fn rest_fits(frag: &[u32], n: usize, stage: Stage) -> bool
     if !reads(stage) {
         return zeros(frag, STORED * n, State::WORDS * n);
     }
-    if !zeros(frag, SCRATCH * n, State::WORDS * n) {
-        return false;
-    }
-    numbers_fit(frag, n)
+    zeros(frag, SCRATCH * n, State::WORDS * n) && numbers_fit(frag, n)
 }
 
 // Everything but the held links.

@@ -14,10 +14,7 @@ fn is_under(frag: &[u32], n: usize, p: usize, i: usize) -> bool
         return false;
     }
     let w = whose_at(frag, n, i);
-    if n <= w {
-        return false;
-    }
-    parent_at(frag, n, w) == p
+    w < n && parent_at(frag, n, w) == p
 }
 
 // v comes at its own turn, and what stands below it ends there or begins with a child.
@@ -32,33 +29,21 @@ fn comes(frag: &[u32], n: usize, v: usize) -> bool
         return false;
     }
     let end = end_at(frag, n, v);
-    if end <= turn {
-        return false;
-    }
-    if end == turn + 1 {
-        return true;
-    }
-    is_under(frag, n, v, turn + 1)
+    turn < end && (end == turn + 1 || is_under(frag, n, v, turn + 1))
 }
 
 // Whether the fragment whose turn is i is greater than v and has the parent p.
 fn rises(frag: &[u32], n: usize, v: usize, p: usize, i: usize) -> bool
     ensures { result ≡ rises_to n (forest_in n frag.now) frag.now v p i }
 {
-    if whose_at(frag, n, i) <= v {
-        return false;
-    }
-    is_under(frag, n, p, i)
+    v < whose_at(frag, n, i) && is_under(frag, n, p, i)
 }
 
 fn root_fits(frag: &[u32], n: usize, v: usize) -> bool
     ensures { result ≡ root_fits n (forest_in n frag.now) frag.now v }
 {
     let end = end_at(frag, n, v);
-    if end == n {
-        return true;
-    }
-    rises(frag, n, v, whose_at(frag, n, end), end)
+    end == n || rises(frag, n, v, whose_at(frag, n, end), end)
 }
 
 fn child_fits(frag: &[u32], n: usize, p: usize, v: usize) -> bool
@@ -68,10 +53,7 @@ fn child_fits(frag: &[u32], n: usize, p: usize, v: usize) -> bool
         return false;
     }
     let end = end_at(frag, n, v);
-    if end == end_at(frag, n, p) {
-        return true;
-    }
-    rises(frag, n, v, p, end)
+    end == end_at(frag, n, p) || rises(frag, n, v, p, end)
 }
 
 fn words_fit(frag: &[u32], n: usize, v: usize) -> bool
@@ -90,12 +72,5 @@ fn words_fit(frag: &[u32], n: usize, v: usize) -> bool
 pub(crate) fn numbers_fit(frag: &[u32], n: usize) -> bool
     ensures { result ≡ every (words_fit n (forest_in n frag.now) frag.now) n }
 {
-    let mut v = 0;
-    while v < n {
-        if !words_fit(frag, n, v) {
-            return false;
-        }
-        v += 1;
-    }
-    true
+    (0..n).all(|v| words_fit(frag, n, v))
 }

@@ -22,10 +22,8 @@ fn word(out: &mut [u8], at: usize, bytes: &[u8]) -> usize
     ensures { Put bytes.now at out.old result out.new }
 {
     let mut end = at;
-    let mut i: usize = 0;
-    while i < bytes.len() {
-        end = byte(out, end, bytes[i]);
-        i += 1;
+    for &b in bytes {
+        end = byte(out, end, b);
     }
     end
 }

@@ -28,18 +28,15 @@ fn list_size(n: u32, words: &[u32]) -> Written
         return not_written(1);
     }
     let mut size = width(n);
-    let mut i: usize = 0;
-    while i + 1 < words.len() {
-        let a = words[i];
-        let b = words[i + 1];
+    let (pairs, rest) = words.as_chunks::<2>();
+    for &[a, b] in pairs {
         let bad = bad_ends(n, a, b);
         if bad != 0 {
             return not_written(bad);
         }
         size += width(a) + width(b);
-        i += 2;
     }
-    if i < words.len() {
+    if !rest.is_empty() {
         return not_written(8);
     }
     Written::End(size)
@@ -60,10 +57,8 @@ fn put_list(n: u32, words: &[u32], buffer: &mut [u8])
     ensures { buffer.new ≡ put buffer.old 0 (written_number n ++ written_words words.now) }
 {
     let mut at = put_number(n, buffer, 0);
-    let mut i: usize = 0;
-    while i < words.len() {
-        at = put_number(words[i], buffer, at);
-        i += 1;
+    for &word in words {
+        at = put_number(word, buffer, at);
     }
 }
 

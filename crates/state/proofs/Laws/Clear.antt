@@ -61,6 +61,14 @@ wiped_more from m l b h =
     ∙ ap (λ r. take from l ++ r) (sym (zeros (m - from) 1 (m + 1 - from) (drop (suc m) l) z) ∙ ap (λ i. replicate (m + 1 - from) 0 ++ drop i l) (sym (add-one m)))
     ∙ sym (wiped_is from (m + 1) l (omega arith) (omega arith))
 
+-- A part filled with 0 up to its end or the table's.
+pub wiped_filled : (from to end : ℕ) (l m : List ℕ) → end ≡ min to (length l) → from < end → m ≡ replicate (length (take (end - from) (drop from l))) 0
+    → take from l ++ (m ++ drop (end - from) (drop from l)) ≡ wiped from to l
+wiped_filled from to end l m e h z =
+    let n : length (take (end - from) (drop from l)) ≡ end - from = simp (length-take, length-drop) (omega arith) in
+    let i : from + (end - from) ≡ end = omega arith in
+    rw (z, n, drop-drop (end - from) from l, i, ← wiped_is from end l (omega arith) (omega arith), e) (wiped_end from to l (omega arith))
+
 -- The words before and past the part stay.
 module _ (from to : ℕ) (l : List ℕ) (b : from ≤ to) (g : to ≤ length l) where
   pub wiped_length : length (wiped from to l) ≡ length l

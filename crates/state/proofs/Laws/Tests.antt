@@ -7,6 +7,7 @@ use Rattle.std.proofs.Common.{◌∙◌, add-one, drop_of_length-le, drop-cons}
 use native.Mathlib.Omega.{arith}
 use Rattle.std.proofs.Math.Decide.{ℕ_discrete, dec_le}
 use Rattle.std.proofs.Math.Seq.{take-nil}
+use Rattle.std.proofs.lemmas.List.{length-drop, take_min}
 use borrow.Author.Tests.{le-ltb, eq-eqb, ne_eqb}
 use Rattle.base.specs.Pick.{tests}
 use Rattle.base.specs.Truth.{T_false, false_T}
@@ -94,6 +95,17 @@ pub and_true_right : (a : Bool) → a && true ≡ a
 and_true_right true = refl
 and_true_right false = refl
 
+-- What lies within the table decides.
+pub zero_part : (l : List ℕ) (from to end : ℕ) → end ≡ min to (length l)
+    → all_zero (take (end - min from end) (drop (min from end) l)) ≡ all_zero (take (to - from) (drop from l))
+zero_part l from to end e = elim (dec_le from end) [
+  | yes h ↦
+      let m : min from end ≡ from = omega arith in
+      let k : end - from ≡ min (to - from) (length (drop from l)) = simp length-drop (omega arith) in
+      rw (m, k, take_min (to - from) (drop from l)) refl
+  | no h ↦ sym (zero_none (drop (min from end) l) (end - min from end) (omega arith)) ∙ zero_ends l from to (omega arith)
+]
+
 -- One word more: what was found before it, and what is left.
 pub zero_more : (l : List ℕ) (i e : ℕ) (found : Bool) → i < length l → i < e
     → not (not (eqb (get_or l i 0) 0) || found) && all_zero (take (e - (i + 1)) (drop (i + 1) l)) ≡ not found && all_zero (take (e - i) (drop i l))
@@ -106,6 +118,20 @@ zero_more l i e found h g =
     apart true b c = refl
     apart false true c = refl
     apart false false c = refl
+
+pub zero_next : (l : List ℕ) (i : ℕ) (found : Bool) → i < length l
+    → not (found || not (eqb (get_or l i 0) 0)) && all_zero (drop (i + 1) l) ≡ not found && all_zero (drop i l)
+unfolding all_zero
+zero_next l i found h = rw (add-one, drop-cons l i 0 h) (apart (eqb (get_or l i 0) 0) found (all_zero (drop (suc i) l)))
+  where
+    apart : (a b c : Bool) → not (b || not a) && c ≡ not b && (a && c)
+    apart a true c = refl
+    apart true false c = refl
+    apart false false c = refl
+
+pub zero_last : (l : List ℕ) (i : ℕ) (found : Bool) → length l ≤ i → not found ≡ not found && all_zero (drop i l)
+unfolding all_zero
+zero_last l i found h = rw (drop_of_length-le l {i = i} h) (sym (and_true_right (not found)))
 
 -- The refusal that is due at the head of a call, step by step: b is the answer of the bounds.
 module _ (allowed : Stage → Bool) (s : State) (f h : List ℕ) (b : ℕ) (eb : b ≡ bounds_refusal s.n s.k (length f) (length h)) where

@@ -1,31 +1,64 @@
--- `writing::list_size` meets its contract: the size so far and the words from `i` on give the whole answer.
+-- `writing::list_size` meets its contract: the size so far and the pairs from `a-index` on give the whole answer.
 -- Assumes nothing.
-use mathlib.Core.Path.{sym, ◌∙◌}
+use Prim.Native.Nat.{ℕ, zero, suc, ◌+◌, ◌-◌, ◌*◌, ◌/◌, ◌<◌}
+use mathlib.Core.List.{List, []}
+use mathlib.Core.Path.{◌≡◌, refl, sym, ap, ◌∙◌}
 use native.Mathlib.Omega.{arith}
+use lib.ListN.{length, drop, get_or}
+use Rattle.std.proofs.lemmas.Bool.Decides.{nat_tests}
+use Rattle.std.specs.Simd.{first_chunks}
+use Rattle.std.proofs.lemmas.List.{get_or-take, get_or-drop}
 use Rattle.writing.specs.Laws.Steps.{sizing_starts, size_refused, size_bad, size_on, size_odd, size_end, width_bound}
 use Rattle.writing.proofs.list_size.Goals as goal
+
+-- A word of a pair.
+of_pair : (m k j i : ℕ) (s : List ℕ) → k < m → j < 2 → i ≡ 2 * k + j → get_or (get_or (first_chunks 2 m s) k []) j 0 ≡ get_or s i 0
+of_pair zero k j i s h g e = absurd (omega arith)
+of_pair (suc m) zero j i s h g e = let z : i ≡ j = omega arith in rw z (get_or-take 2 s j 0 g)
+of_pair (suc m) (suc k) j i s h g e =
+    let z : 2 + (i - 2) ≡ i = omega arith in
+    of_pair m k j (i - 2) (drop 2 s) (omega arith) g (omega arith) ∙ get_or-drop 2 s (i - 2) 0 ∙ ap (λ x. get_or s x 0) z
+
+module _ (s : List ℕ) (p : List (List ℕ)) (e : p ≡ first_chunks 2 (length s / 2) s) (k : ℕ) (h : k < length s / 2) where
+  first : get_or (get_or p k []) 0 0 ≡ get_or s (2 * k) 0
+  first = rw e (of_pair _ k 0 (2 * k) s h (omega arith) (omega arith))
+
+  second : get_or (get_or p k []) 1 0 ≡ get_or s (2 * k + 1) 0
+  second = rw e (of_pair _ k 1 (2 * k + 1) s h (omega arith) (omega arith))
 
 pub returns-then-bad_size : goal.returns-then-bad_size
 returns-then-bad_size c = c.not_written.ensures ∙ size_refused _ _ (sym c.bad_size.ensures ∙ c.if-bad_size.true)
 
-pub loop-i-init : goal.loop-i-init
-loop-i-init c = sizing_starts _ _ (sym c.bad_size.ensures ∙ c.if-bad_size.false) _ c.width-size.ensures
+pub loop-a-init : goal.loop-a-init
+loop-a-init c = sizing_starts _ _ (sym c.bad_size.ensures ∙ c.if-bad_size.false) _ c.width-size.ensures
 
 pub returns-then-bad-ne0 : goal.returns-then-bad-ne0
-returns-then-bad-ne0 c = c.not_written-then-bad-ne0.ensures ∙ size_bad _ _ c.loop-i.invariant c.loop-i-test.true _ c.bad_ends-bad.ensures c.if-bad-ne0.true
+returns-then-bad-ne0 c =
+    let k = c.loop-a.a-index in
+    let h : k < length c.args.words.now / 2 = omega arith in
+    let x = first c.args.words.now _ c.as_chunks.ensures.front k h in
+    let y = second c.args.words.now _ c.as_chunks.ensures.front k h in
+    c.not_written-then-bad-ne0.ensures ∙ size_bad _ _ c.loop-a.invariant (omega arith) _ (rw (x, y) at c.bad_ends-bad.ensures) c.if-bad-ne0.true
 
 pub overflow_add-size : goal.overflow_add-size
-overflow_add-size c = let x = width_bound _ _ c.width.ensures in let y = width_bound _ _ c.width-in-loop-i.ensures in omega arith
+overflow_add-size c = let x = width_bound _ _ c.width.ensures in let y = width_bound _ _ c.width-in-loop-a.ensures in omega arith
 
-pub overflow_add-size-in-loop-i : goal.overflow_add-size-in-loop-i
-overflow_add-size-in-loop-i c = let x = width_bound _ _ c.width.ensures in let y = width_bound _ _ c.width-in-loop-i.ensures in omega arith
+pub overflow_add-size-in-loop-a : goal.overflow_add-size-in-loop-a
+overflow_add-size-in-loop-a c = let x = width_bound _ _ c.width.ensures in let y = width_bound _ _ c.width-in-loop-a.ensures in omega arith
 
-pub loop-i-preserved : goal.loop-i-preserved
-loop-i-preserved c =
-    size_on _ _ c.loop-i.invariant c.loop-i-test.true (sym c.bad_ends-bad.ensures ∙ c.if-bad-ne0.false) _ (omega (arith, c.width.ensures, c.width-in-loop-i.ensures))
+pub loop-a-preserved : goal.loop-a-preserved
+loop-a-preserved c =
+    let k = c.loop-a.a-index in
+    let h : k < length c.args.words.now / 2 = omega arith in
+    let x = first c.args.words.now _ c.as_chunks.ensures.front k h in
+    let y = second c.args.words.now _ c.as_chunks.ensures.front k h in
+    let e : 2 * (k + 1) ≡ 2 * k + 2 = omega arith in
+    let z = rw (x, y) at (sym c.bad_ends-bad.ensures ∙ c.if-bad-ne0.false) in
+    rw e (size_on _ _ c.loop-a.invariant (omega arith) z _ (rw (c.width.ensures, c.width-in-loop-a.ensures, x, y) refl))
 
-pub returns-then-i-words : goal.returns-then-i-words
-returns-then-i-words c = c.not_written-then-i-words.ensures ∙ size_odd _ _ c.loop-i.invariant c.if-i-words.true c.loop-i-test.false
+pub returns-then-not-is_empty : goal.returns-then-not-is_empty
+returns-then-not-is_empty c =
+    c.not_written-then-not-is_empty.ensures ∙ size_odd _ _ c.loop-a.invariant (grind (arith, nat_tests)) (omega arith)
 
 pub returns : goal.returns
-returns c = size_end _ _ c.loop-i.invariant c.if-i-words.false
+returns c = size_end _ _ c.loop-a.invariant (grind (arith, nat_tests))

@@ -1,11 +1,7 @@
--- `writing::list_size` meets its contract: the size so far and the words from `i` on give the whole answer.
-use Prim.Native.Nat.{◌-◌}
-use lib.ListN.{length}
+-- `writing::list_size` meets its contract: the size so far and the pairs from `a-index` on give the whole answer.
+use Prim.Native.Nat.{◌*◌}
 use Rattle.writing.specs.Laws.Steps.{Sizing}
 use Rattle.writing.proofs.list_size.Given as goal
 
-abbrev pub invariant-loop-i : goal.invariant-loop-i
-invariant-loop-i l = Sizing l.n l.words l.i l.size
-
-abbrev pub decreases-loop-i : goal.decreases-loop-i
-decreases-loop-i l = length l.words - l.i
+abbrev pub invariant-loop-a : goal.invariant-loop-a
+invariant-loop-a l = Sizing l.n l.words (2 * l.a-index) l.size

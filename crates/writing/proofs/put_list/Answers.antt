@@ -1,4 +1,4 @@
--- `writing::put_list` meets its contract: the words from `i` on, put at `at`, give what all of them give.
+-- `writing::put_list` meets its contract: the words from `word-index` on, put at `at`, give what all of them give.
 -- Assumes nothing.
 use mathlib.Core.Path.{◌∙◌}
 use Rattle.writing.specs.Laws.Steps.{putting_fits, putting_starts, putting_whole, putting_ends, putting_more, putting_on}
@@ -7,14 +7,14 @@ use Rattle.writing.proofs.put_list.Goals as goal
 pub put_number-at-requires : goal.put_number-at-requires
 put_number-at-requires c = putting_fits c.requires
 
-pub loop-i-init : goal.loop-i-init
-loop-i-init c = putting_starts c.requires c.put_number-at.ensures
+pub loop-word-init : goal.loop-word-init
+loop-word-init c = putting_starts c.requires c.put_number-at.ensures
 
-pub put_number-at-requires-in-loop-i : goal.put_number-at-requires-in-loop-i
-put_number-at-requires-in-loop-i c = putting_more c.loop-i.invariant c.loop-i-test.true (c.requires.most _)
+pub put_number-at-requires-in-loop-word : goal.put_number-at-requires-in-loop-word
+put_number-at-requires-in-loop-word c = putting_more c.loop-word.invariant c.loop-word-test.true (c.requires.most _)
 
-pub loop-i-preserved : goal.loop-i-preserved
-loop-i-preserved c = putting_on c.loop-i.invariant c.loop-i-test.true _ _ c.put_number-at-in-loop-i.ensures
+pub loop-word-preserved : goal.loop-word-preserved
+loop-word-preserved c = putting_on c.loop-word.invariant c.loop-word-test.true _ _ c.put_number-at-in-loop-word.ensures
 
 pub returns : goal.returns
-returns c = putting_ends c.loop-i.invariant c.loop-i-test.false ∙ putting_whole c.requires c.put_number-at.ensures
+returns c = putting_ends c.loop-word.invariant c.loop-word-test.false ∙ putting_whole c.requires c.put_number-at.ensures

@@ -1,13 +1,7 @@
 -- `asking::ranges::reach` meets its contract: the least note of the turns passed, one turn at a time.
-use Prim.Native.Nat.{◌-◌}
-use mathlib.Core.Path.{◌≡◌}
-use Rattle.rules.specs.Numbers.{end as end_of}
 use Rattle.state.specs.Layout.{forest_in}
 use Rattle.asking.specs.Ranges.{Reached}
 use Rattle.asking.proofs.ranges.reach.Given as goal
 
 abbrev pub invariant-loop-i : goal.invariant-loop-i
-invariant-loop-i l = (l.end ≡ end_of l.n (forest_in l.n l.frag) l.v) × Reached l.n (forest_in l.n l.frag) l.v l.i l.least
-
-abbrev pub decreases-loop-i : goal.decreases-loop-i
-decreases-loop-i l = l.end - l.i
+invariant-loop-i l = Reached l.n (forest_in l.n l.frag) l.v l.i l.least

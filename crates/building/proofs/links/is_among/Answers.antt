@@ -6,17 +6,17 @@ use Rattle.building.specs.Laws.Among.{among_more, among_hit, among_none}
 use Rattle.building.proofs.links.is_among.Goals as goal
 
 pub loop-i-init : goal.loop-i-init
-loop-i-init c = (omega arith, omega arith, refl)
+loop-i-init c = refl
 
 pub returns-then-is_same : goal.returns-then-is_same
 returns-then-is_same c =
     let l = c.loop-i in
-    among_hit _ _ l.i (omega arith) c.requires.1 _ _ c.low_end-c.ensures c.high_end-d.ensures _ _ (sym c.if-is_same.true ∙ c.is_same.ensures) ∙ l.invariant.2
+    among_hit _ _ l.i (omega arith) c.requires.1 _ _ c.low_end-c.ensures c.high_end-d.ensures _ _ (sym c.if-is_same.true ∙ c.is_same.ensures) ∙ l.invariant
 
 pub loop-i-preserved : goal.loop-i-preserved
 loop-i-preserved c =
     let l = c.loop-i in
-    (omega arith, omega arith, among_more _ _ l.i (omega arith) c.requires.1 _ _ c.low_end-c.ensures c.high_end-d.ensures _ _ (sym c.if-is_same.false ∙ c.is_same.ensures) ∙ l.invariant.2)
+    among_more _ _ l.i (omega arith) c.requires.1 _ _ c.low_end-c.ensures c.high_end-d.ensures _ _ (sym c.if-is_same.false ∙ c.is_same.ensures) ∙ l.invariant
 
 pub returns : goal.returns
-returns c = let l = c.loop-i in among_none _ _ l.i (omega arith) _ _ ∙ l.invariant.2
+returns c = let l = c.loop-i in among_none _ _ l.i (omega arith) _ _ ∙ l.invariant

@@ -7,25 +7,25 @@ use Rattle.closing.specs.Laws.Members.{chaining_none, chaining_turn, chaining_al
 use Rattle.closing.proofs.members.chain_members.Goals as goal
 
 pub loop-v-init : goal.loop-v-init
-loop-v-init c = (omega arith, chaining_none _ _ c.requires)
+loop-v-init c = chaining_none _ _ c.requires
 
 pub bounds-frag-n-in-loop-v : goal.bounds-frag-n-in-loop-v
 bounds-frag-n-in-loop-v c =
     let l = c.loop-v in
-    omega (arith, label_small _ _ _ _ c.requires l.invariant.1 (omega arith) l.invariant.0 _ c.wide-p.ensures.says, l.invariant.1.same_long)
+    omega (arith, label_small _ _ _ _ c.requires l.invariant (omega arith) (omega arith) _ c.wide-p.ensures.says, l.invariant.same_long)
 
 pub bounds-frag-n-in-loop-v-3 : goal.bounds-frag-n-in-loop-v-3
 bounds-frag-n-in-loop-v-3 c =
     let l = c.loop-v in
-    simp length-set (omega (arith, label_small _ _ _ _ c.requires l.invariant.1 (omega arith) l.invariant.0 _ c.wide-p.ensures.says, l.invariant.1.same_long))
+    simp length-set (omega (arith, label_small _ _ _ _ c.requires l.invariant (omega arith) (omega arith) _ c.wide-p.ensures.says, l.invariant.same_long))
 
 pub loop-v-preserved : goal.loop-v-preserved
 loop-v-preserved c =
     let l = c.loop-v in
-    (omega arith, chaining_turn _ _ _ _ c.requires l.invariant.1 (omega arith) l.invariant.0 _ c.wide-p.ensures.says)
+    chaining_turn _ _ _ _ c.requires l.invariant (omega arith) (omega arith) _ c.wide-p.ensures.says
 
 pub returns : goal.returns
 returns c =
     let l = c.loop-v in
     let e : l.v ≡ 0 = omega arith in
-    chaining_all _ _ _ (rw e at l.invariant.1)
+    chaining_all _ _ _ (rw e at l.invariant)

@@ -8,5 +8,5 @@ use Rattle.closing.proofs.members.next_member.Goals as goal
 pub returns-then-next-eq0 : goal.returns-then-next-eq0
 returns-then-next-eq0 c = follows_none _ _ _ c.requires.1 (omega arith) (sym c.wide-next.ensures.says ∙ c.if-next-eq0.true)
 
-pub returns : goal.returns
-returns c = follows_next _ _ _ c.requires.1 (omega arith) _ (sym c.wide-next.ensures.says ∙ omega (arith, c.if-next-eq0.false))
+pub returns-else-next-eq0 : goal.returns-else-next-eq0
+returns-else-next-eq0 c = follows_next _ _ _ c.requires.1 (omega arith) _ (sym c.wide-next.ensures.says ∙ omega (arith, c.if-next-eq0.false))

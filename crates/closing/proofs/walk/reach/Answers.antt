@@ -13,5 +13,5 @@ overflow_add-r-2 c = let a = c.args in omega (arith, level_word (bare a.n) a.fra
 pub returns-then-most-r : goal.returns-then-most-r
 returns-then-most-r c = (deeper_new _ _ _ _ _ c.if-most-r.true, reached_put _ _ _ _ _ _ c.put.ensures c.enter.ensures)
 
-pub returns : goal.returns
-returns c = (deeper_old _ _ _ _ _ c.if-most-r.false, reached_put _ _ _ _ _ _ c.put.ensures c.enter.ensures)
+pub returns-else-most-r : goal.returns-else-most-r
+returns-else-most-r c = (deeper_old _ _ _ _ _ c.if-most-r.false, reached_put _ _ _ _ _ _ c.put.ensures c.enter.ensures)

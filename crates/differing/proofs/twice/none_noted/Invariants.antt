@@ -1,10 +1,6 @@
 -- `differing::twice::none_noted` meets its contract: none of the words of the class looked up so far is noted.
-use Prim.Native.Nat.{◌-◌, ◌≤◌}
 use Rattle.differing.specs.Laws.Batches.{Missed}
 use Rattle.differing.proofs.twice.none_noted.Given as goal
 
 abbrev pub invariant-loop-i : goal.invariant-loop-i
-invariant-loop-i l = (l.from ≤ l.i) × (l.i ≤ l.to) × Missed l.at l.size l.c l.classes l.frag l.held l.from l.i
-
-abbrev pub decreases-loop-i : goal.decreases-loop-i
-decreases-loop-i l = l.to - l.i
+invariant-loop-i l = Missed l.at l.size l.c l.classes l.frag l.held l.from l.i

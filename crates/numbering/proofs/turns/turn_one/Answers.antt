@@ -1,17 +1,10 @@
 -- `numbering::turns::turn_one` meets its contract.
 -- Assumes nothing.
-use native.Mathlib.Omega.{arith}
 use Rattle.numbering.specs.Laws.Turns.{turned_root, turned_child}
 use Rattle.numbering.proofs.turns.turn_one.Goals as goal
 
 pub returns-then-p-v : goal.returns-then-p-v
-returns-then-p-v c = turned_root _ _ _ _ c.parent_in-p.ensures.0 c.if-p-v.true
-
-pub overflow_add-frag-3 : goal.overflow_add-frag-3
-overflow_add-frag-3 c = let p = c.requires in omega (arith, p.1 _ c.parent_in-p.ensures.1, p.1 _ p.2, p.0.few)
-
-pub overflow_add-frag-4 : goal.overflow_add-frag-4
-overflow_add-frag-4 c = let p = c.requires in omega (arith, p.1 _ c.parent_in-p.ensures.1, p.1 _ p.2, p.0.few)
+returns-then-p-v c = turned_root _ _ _ _ c.parent_of-p.ensures c.if-p-v.true
 
 pub returns : goal.returns
-returns c = turned_child _ _ _ _ c.parent_in-p.ensures.0 c.if-p-v.false
+returns c = turned_child _ _ _ _ c.parent_of-p.ensures c.if-p-v.false

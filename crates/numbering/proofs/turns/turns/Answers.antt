@@ -5,14 +5,14 @@ use native.Mathlib.Omega.{arith}
 use Rattle.numbering.proofs.turns.turns.Goals as goal
 
 pub loop-i-init : goal.loop-i-init
-loop-i-init c = (omega arith, turning_none _ _ c.requires)
+loop-i-init c = turning_none _ _ c.requires
 
 pub turn_one-requires : goal.turn_one-requires
 turn_one-requires c =
-    let l = c.loop-i in let p = c.requires in (turning_whole p l.invariant.1, turning_small p l.invariant.1, omega (arith, c.wide-v.ensures.says, turning_next p l.invariant.1 l.i (omega arith)))
+    let l = c.loop-i in let p = c.requires in (turning_whole p l.invariant, turning_small p l.invariant, omega (arith, c.wide-v.ensures.says, turning_next p l.invariant l.i (omega arith)))
 
 pub loop-i-preserved : goal.loop-i-preserved
-loop-i-preserved c = let l = c.loop-i in (omega arith, turning_turn c.requires l.invariant.1 (omega arith) _ c.wide-v.ensures.says _ c.turn_one.ensures)
+loop-i-preserved c = turning_turn c.requires c.loop-i.invariant (omega arith) _ c.wide-v.ensures.says _ c.turn_one.ensures
 
 pub returns : goal.returns
-returns c = let l = c.loop-i in turning_all (omega arith) l.invariant.1
+returns c = turning_all (omega arith) c.loop-i.invariant

@@ -5,7 +5,7 @@ use Rattle.pieces.specs.Laws.Check.{quota_none, quota_more, quota_off, quota_all
 use Rattle.pieces.proofs.quota.quota_fits.Goals as goal
 
 pub loop-p-init : goal.loop-p-init
-loop-p-init c = (omega arith, quota_none _ _ _)
+loop-p-init c = quota_none _ _ _
 
 pub piece_fits-requires : goal.piece_fits-requires
 piece_fits-requires c =
@@ -18,7 +18,7 @@ returns-then-not-piece_fits c = quota_off _ _ _ c.loop-p.p _ (omega arith) (c.if
 pub loop-p-preserved : goal.loop-p-preserved
 loop-p-preserved c =
     let l = c.loop-p in
-    (omega arith, quota_more _ _ _ l.p _ (c.if-not-piece_fits.false) c.piece_fits.ensures l.invariant.1)
+    quota_more _ _ _ l.p _ (c.if-not-piece_fits.false) c.piece_fits.ensures l.invariant
 
 pub returns : goal.returns
-returns c = let l = c.loop-p in quota_all _ _ _ l.p (omega arith) l.invariant.1
+returns c = let l = c.loop-p in quota_all _ _ _ l.p (omega arith) l.invariant

@@ -1,10 +1,6 @@
 -- `pieces::quota::quota_fits` meets its contract: after p turns the pieces with smallest member below p keep their quota.
-use Prim.Native.Nat.{◌-◌, ◌≤◌}
 use Rattle.pieces.specs.Laws.Check.{Below}
 use Rattle.pieces.proofs.quota.quota_fits.Given as goal
 
 abbrev pub invariant-loop-p : goal.invariant-loop-p
-invariant-loop-p l = (l.p ≤ l.n) × Below l.n l.k l.frag l.p
-
-abbrev pub decreases-loop-p : goal.decreases-loop-p
-decreases-loop-p l = l.n - l.p
+invariant-loop-p l = Below l.n l.k l.frag l.p

@@ -5,13 +5,13 @@ use native.Mathlib.Omega.{arith}
 use Rattle.reaches.proofs.judge.mark_soles.Goals as goal
 
 pub loop-v-init : goal.loop-v-init
-loop-v-init c = (omega arith, soles_none _ _)
+loop-v-init c = soles_none _ _
 
 pub sole_word-requires : goal.sole_word-requires
-sole_word-requires c = (soles_fit c.requires c.loop-v.invariant.1, omega arith)
+sole_word-requires c = (soles_fit c.requires c.loop-v.invariant, omega arith)
 
 pub loop-v-preserved : goal.loop-v-preserved
-loop-v-preserved c = let l = c.loop-v in (omega arith, soles_turn c.requires l.invariant.1 (omega arith) _ c.sole_word.ensures)
+loop-v-preserved c = soles_turn c.requires c.loop-v.invariant (omega arith) _ c.sole_word.ensures
 
 pub returns : goal.returns
-returns c = soles_all (omega arith) c.loop-v.invariant.1
+returns c = soles_all (omega arith) c.loop-v.invariant

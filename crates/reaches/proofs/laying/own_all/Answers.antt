@@ -5,10 +5,10 @@ use native.Mathlib.Omega.{arith}
 use Rattle.reaches.proofs.laying.own_all.Goals as goal
 
 pub loop-v-init : goal.loop-v-init
-loop-v-init c = (omega arith, own_none _ _)
+loop-v-init c = own_none _ _
 
 pub loop-v-preserved : goal.loop-v-preserved
-loop-v-preserved c = let l = c.loop-v in (omega arith, own_turn c.requires.whole l.invariant.1 (omega arith))
+loop-v-preserved c = own_turn c.requires.whole c.loop-v.invariant (omega arith)
 
 pub returns : goal.returns
-returns c = own_all (omega arith) c.loop-v.invariant.1
+returns c = own_all (omega arith) c.loop-v.invariant

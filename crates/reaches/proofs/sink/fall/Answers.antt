@@ -5,14 +5,14 @@ use native.Mathlib.Omega.{arith}
 use Rattle.reaches.proofs.sink.fall.Goals as goal
 
 pub loop-i-init : goal.loop-i-init
-loop-i-init c = (omega arith, falling_none _ _ c.requires)
+loop-i-init c = falling_none _ _ c.requires
 
 pub fall_one-requires : goal.fall_one-requires
 fall_one-requires c =
-    let l = c.loop-i in let p = c.requires in (falling_fit p l.invariant.1, omega (arith, c.wide-v.ensures.says, falling_next p l.invariant.1 l.i (omega arith)))
+    let l = c.loop-i in let p = c.requires in (falling_fit p l.invariant, omega (arith, c.wide-v.ensures.says, falling_next p l.invariant l.i (omega arith)))
 
 pub loop-i-preserved : goal.loop-i-preserved
-loop-i-preserved c = let l = c.loop-i in (omega arith, falling_turn c.requires l.invariant.1 (omega arith) _ c.wide-v.ensures.says _ c.fall_one.ensures)
+loop-i-preserved c = falling_turn c.requires c.loop-i.invariant (omega arith) _ c.wide-v.ensures.says _ c.fall_one.ensures
 
 pub returns : goal.returns
-returns c = let l = c.loop-i in falling_all (omega arith) l.invariant.1
+returns c = falling_all (omega arith) c.loop-i.invariant

@@ -4,4 +4,4 @@ use Rattle.reaches.specs.Laws.Passes.{sunk_is}
 use Rattle.reaches.proofs.sink.sink_one.Goals as goal
 
 pub returns : goal.returns
-returns c = sunk_is _ _ _ _ _ _ c.parent_in-p.ensures.0 c.least.ensures
+returns c = sunk_is _ _ _ _ _ _ c.parent_of-p.ensures c.min.ensures

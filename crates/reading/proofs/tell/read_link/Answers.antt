@@ -10,8 +10,8 @@ hear-requires-2 c =
 
 pub returns-then-crosses : goal.returns-then-crosses
 returns-then-crosses c =
-    read_apart _ _ c.hear.ensures c.hear-2.ensures _ _ c.apart-crosses.ensures c.if-crosses.true
+    rw c.if-crosses.true (read_apart _ _ c.hear.ensures c.hear-2.ensures _ _ c.apart-crosses.ensures c.if-crosses.true)
 
-pub returns : goal.returns
-returns c =
+pub returns-else-crosses : goal.returns-else-crosses
+returns-else-crosses c =
     read_joined _ _ c.hear.ensures c.hear-2.ensures _ _ c.apart-crosses.ensures c.if-crosses.false

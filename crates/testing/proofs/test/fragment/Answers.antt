@@ -5,14 +5,14 @@ use native.Mathlib.Omega.{arith}
 use Rattle.testing.specs.Laws.Fragment.{fits_never, fits_loose, fits_fallen, fits_placed}
 use Rattle.testing.proofs.test.fragment.Goals as goal
 
-pub returns-then-not-is_building : goal.returns-then-not-is_building
-returns-then-not-is_building c = fits_never _ _ _ _ _ c.rank_at.ensures.says (omega arith) _ c.is_building.ensures (c.if-not-is_building.true)
+pub returns-else-is_building : goal.returns-else-is_building
+returns-else-is_building c = c.if-is_building.false ∙ fits_never _ _ _ _ _ c.rank_at.ensures.says (omega arith) _ c.is_building.ensures (c.if-is_building.false)
 
-pub returns-then-rank_at-eq0 : goal.returns-then-rank_at-eq0
-returns-then-rank_at-eq0 c = fits_loose _ _ _ _ _ c.rank_at.ensures.says (omega arith) _ c.is_building.ensures (c.if-not-is_building.false) _ c.waits.ensures
+pub returns-then-is_building : goal.returns-then-is_building
+returns-then-is_building c = fits_loose _ _ _ _ _ c.rank_at.ensures.says (omega arith) _ c.is_building.ensures (c.if-is_building.true) _ c.waits.ensures
 
-pub returns-then-not-stands : goal.returns-then-not-stands
-returns-then-not-stands c = fits_fallen _ _ _ _ _ c.rank_at.ensures.says (omega arith) (sym (c.if-not-stands.true) ∙ c.stands.ensures)
+pub returns-else-stands : goal.returns-else-stands
+returns-else-stands c = c.if-stands.false ∙ fits_fallen _ _ _ _ _ c.rank_at.ensures.says (omega arith) (sym (c.if-stands.false) ∙ c.stands.ensures)
 
-pub returns : goal.returns
-returns c = fits_placed _ _ _ _ _ c.rank_at.ensures.says (omega arith) (sym (c.if-not-stands.false) ∙ c.stands.ensures) _ c.noted.ensures
+pub returns-then-stands : goal.returns-then-stands
+returns-then-stands c = fits_placed _ _ _ _ _ c.rank_at.ensures.says (omega arith) (sym (c.if-stands.true) ∙ c.stands.ensures) _ c.noted.ensures

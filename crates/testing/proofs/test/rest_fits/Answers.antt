@@ -20,8 +20,8 @@ overflow_mul-n-2 c = let p = c.requires in omega (arith, p)
 pub overflow_mul-n-3 : goal.overflow_mul-n-3
 overflow_mul-n-3 c = let p = c.requires in omega (arith, p)
 
-pub returns-then-not-zeros : goal.returns-then-not-zeros
-returns-then-not-zeros c = rest_worked _ _ _ (sym c.reads.ensures ∙ c.if-not-reads.false) (sym (c.if-not-zeros.true) ∙ c.zeros-2.ensures)
+pub returns-else-zeros : goal.returns-else-zeros
+returns-else-zeros c = c.if-zeros.false ∙ rest_worked _ _ _ (sym c.reads.ensures ∙ c.if-not-reads.false) (sym c.if-zeros.false ∙ c.zeros-2.ensures)
 
-pub returns : goal.returns
-returns c = rest_numbered _ _ _ (sym c.reads.ensures ∙ c.if-not-reads.false) (sym (c.if-not-zeros.false) ∙ c.zeros-2.ensures) _ c.numbers_fit.ensures
+pub returns-then-zeros : goal.returns-then-zeros
+returns-then-zeros c = rest_numbered _ _ _ (sym c.reads.ensures ∙ c.if-not-reads.false) (sym c.if-zeros.true ∙ c.zeros-2.ensures) _ c.numbers_fit.ensures

@@ -1,11 +1,7 @@
 -- `text::lines::word` meets its contract.
-use Prim.Native.Nat.{◌+◌, ◌≤◌, ◌-◌}
-use lib.ListN.{length, take}
+use lib.ListN.{take}
 use Rattle.text.specs.Put.{Put}
 use Rattle.text.proofs.lines.word.Given as goal
 
-abbrev pub invariant-loop-i : goal.invariant-loop-i
-invariant-loop-i l = Put (take l.i l.bytes) l.at l.initial.out l.end l.out × (l.i ≤ length l.bytes) × (l.end ≤ l.at + l.i)
-
-abbrev pub decreases-loop-i : goal.decreases-loop-i
-decreases-loop-i l = length l.bytes - l.i
+abbrev pub invariant-loop-b : goal.invariant-loop-b
+invariant-loop-b l = Put (take l.b-index l.bytes) l.at l.initial.out l.end l.out
