@@ -1,5 +1,6 @@
 // Adopt: 'Adopt (n, k, a parent table of at least n words, of which the first n are read) gives Built.'
 ghost use Rattle.std.specs.Prelude.{suc, ◌<◌, ◌≡◌};
+ghost use Rattle.numbers.specs.Answers.{due};
 ghost use Rattle.rules.specs.Forest.{depth};
 ghost use Rattle.rules.specs.Adopting.{parent_in};
 ghost use Rattle.state.specs.Adopt.{adopt_refusal, adopt_call};
@@ -8,25 +9,22 @@ ghost use Rattle.state.proofs.Laws.Tests.{Room};
 ghost use Rattle.adopting.specs.Adopt.{Rooted, Ranked, Placed};
 
 use crate::parents::may_adopt;
-use numbers::Refusal;
-use state::{Stage, Started, State, bounds, clear, wide};
+use numbers::{Refusal, Why};
+use state::{Stage, State, bounds, clear, wide};
 use tables::NOTE;
 
-// Which of the refusals 1, 2, 3 and 10 is due; 0 where none is.
-fn refusal_of(n: usize, k: usize, parents: &[u32], frags: usize, helds: usize) -> u32
-    ensures { result ≡ adopt_refusal n k parents.now frags helds }
+// Which of the refusals 1, 2, 3 and 10 is due.
+fn refusal_of(n: usize, k: usize, parents: &[u32], frags: usize, helds: usize) -> Result<(), Why>
+    ensures { due result ≡ adopt_refusal n k parents.now frags helds }
 {
-    let refusal = bounds(n, k, frags, helds);
-    if refusal != 0 {
-        return refusal;
-    }
+    bounds(n, k, frags, helds)?;
     if parents.len() < n {
-        return 3;
+        return Err(Why::Short);
     }
     if !may_adopt(parents, n) {
-        return 10;
+        return Err(Why::Parents);
     }
-    0
+    Ok(())
 }
 
 // One more than v's level. The way is followed to a root, or to one below v, whose level is written.
@@ -61,18 +59,18 @@ fn place_all(frag: &mut [u32], parents: &[u32], n: usize)
     }
 }
 
-pub fn adopt(n: usize, k: usize, parents: &[u32], frag: &mut [u32], held: &mut [u32]) -> Started
+pub fn adopt(
+    n: usize,
+    k: usize,
+    parents: &[u32],
+    frag: &mut [u32],
+    held: &mut [u32],
+) -> Result<State, Refusal>
     ensures { begun_told result frag.new held.new ≡ adopt_call n k parents.now frag.old held.old }
 {
-    let refusal = refusal_of(n, k, parents, frag.len(), held.len());
-    if refusal != 0 {
-        return Started::Refused(Refusal {
-            number: refusal,
-            place: 0,
-        });
-    }
+    refusal_of(n, k, parents, frag.len(), held.len())?;
     place_all(frag, parents, n);
     clear(frag, NOTE * n, State::WORDS * n);
     clear(held, 0, k * n);
-    Started::Ready(State::begun(n, k, Stage::Built))
+    Ok(State::begun(n, k, Stage::Built))
 }

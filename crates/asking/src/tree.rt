@@ -9,8 +9,8 @@ ghost use Rattle.state.specs.Answers.{asked_told};
 ghost use Rattle.testing.specs.Whole.{Numbered};
 
 use numbering::head;
-use numbers::Refusal;
-use state::{Asked, State, clear, is_building, is_built};
+use numbers::{Refusal, Why};
+use state::{State, clear, is_building, is_built};
 use tables::{SCRATCH, TURN, end_at, is_above, turn_at, whose_at};
 
 // The root of v's tree: the one whose turns v's is among.
@@ -36,34 +36,24 @@ fn smallest(frag: &[u32], n: usize, v: usize) -> usize
 }
 
 // The answer about v.
-fn told(frag: &[u32], n: usize, v: usize) -> Asked
+fn told(frag: &[u32], n: usize, v: usize) -> Result<usize, Refusal>
     requires { Numbered n frag.now }
     ensures { asked_told result ≡ pick (leb n v) (refuses 4 0) (gives (piece_of n (forest_in n frag.now) v)) }
 {
     if n <= v {
-        return Asked::Refused(Refusal {
-            number: 4,
-            place: 0,
-        });
+        return Err(Refusal::from(Why::NoFragment));
     }
-    Asked::Number(smallest(frag, n, v))
+    Ok(smallest(frag, n, v))
 }
 
 // The fragment table is lent to number the forest in, where that is not done yet; it is left as found.
-pub fn piece(s: State, frag: &mut [u32], held: &[u32], v: usize) -> Asked
+pub fn piece(s: State, frag: &mut [u32], held: &[u32], v: usize) -> Result<usize, Refusal>
     ensures { (asked_told result ≡ piece_call s frag.old held.now v) × (frag.new ≡ frag.old) }
 {
     let n = s.n;
-    let stage = s.stage;
-    let refusal = head(s, !is_building(stage), frag, held);
-    if refusal != 0 {
-        return Asked::Refused(Refusal {
-            number: refusal,
-            place: 0,
-        });
-    }
+    head(s, !is_building(s.stage), frag, held)?;
     let answer = told(frag, n, v);
-    if !is_built(stage) {
+    if !is_built(s.stage) {
         return answer;
     }
     clear(frag, TURN * n, SCRATCH * n);

@@ -2,9 +2,9 @@
 ghost use Rattle.std.specs.Prelude.{◌≡◌};
 ghost use Rattle.rules.specs.Building.{hold_link};
 ghost use Rattle.pieces.specs.Gathered.{held_tables};
-ghost use Rattle.building.specs.Telling.{Leaves, Sized, room_at, Holdable, Holds, Between, Within, MayHold};
+ghost use Rattle.building.specs.Telling.{Leaves, Sized, room_at, Holdable, Holds, Between, MayHold};
 
-use crate::noted::{is_held, note_held};
+use crate::noted::{Place, is_held, note_held};
 use pieces::{LINKS, SIZE, find, join};
 use state::wide;
 use tables::{MARK, put_link};
@@ -19,39 +19,8 @@ fn has_room(frag: &[u32], n: usize, k: usize, p: usize) -> bool
     links < k * size - 1
 }
 
-// Whether a link inside the piece with smallest member p is to be held. A new one that finds no room marks the piece lost.
-fn may_hold_inside(
-    frag: &mut [u32],
-    held: &[u32],
-    n: usize,
-    k: usize,
-    count: usize,
-    p: usize,
-    a: usize,
-    b: usize,
-    told: u32,
-    block: &[u8],
-    at: usize,
-) -> bool
-    requires { Within n k count p a b frag.old held.now }
-    ensures { MayHold n k count a b frag.old held.now result frag.new }
-{
-    let room = has_room(frag, n, k, p);
-    // Full and lost: held or not, the link changes nothing.
-    if !room && frag[MARK * n + p] == 1 {
-        return false;
-    }
-    if is_held(frag, held, n, count, a, b, told, block, at) {
-        return false;
-    }
-    if room {
-        return true;
-    }
-    frag[MARK * n + p] = 1;
-    false
-}
-
 // Whether a link between two unplaced fragments is to be held. One that joins two pieces is new.
+// One inside a piece that is new and finds no room marks the piece lost.
 fn may_hold(
     frag: &mut [u32],
     held: &[u32],
@@ -60,9 +29,7 @@ fn may_hold(
     count: usize,
     a: usize,
     b: usize,
-    told: u32,
-    block: &[u8],
-    at: usize,
+    place: Place<'_>,
 ) -> bool
     requires { Between n k count a b frag.old held.now }
     ensures { MayHold n k count a b frag.old held.now result frag.new }
@@ -72,7 +39,19 @@ fn may_hold(
     if p != q {
         return true;
     }
-    may_hold_inside(frag, held, n, k, count, p, a, b, told, block, at)
+    let room = has_room(frag, n, k, p);
+    // Full and lost: held or not, the link changes nothing.
+    if !room && frag[MARK * n + p] == 1 {
+        return false;
+    }
+    if is_held(frag, held, n, count, a, b, place) {
+        return false;
+    }
+    if room {
+        return true;
+    }
+    frag[MARK * n + p] = 1;
+    false
 }
 
 // The link is held, with the smaller end first, and its pieces become one.
@@ -88,7 +67,7 @@ fn hold(frag: &mut [u32], held: &mut [u32], n: usize, count: usize, a: usize, b:
     }
 }
 
-// A link between two unplaced fragments, which begins at byte `at` of the block. Returns how many links are held now.
+// A link between two unplaced fragments. Returns how many links are held now.
 pub(crate) fn hold_link(
     frag: &mut [u32],
     held: &mut [u32],
@@ -97,14 +76,12 @@ pub(crate) fn hold_link(
     count: usize,
     a: usize,
     b: usize,
-    told: u32,
-    block: &[u8],
-    at: usize,
+    place: Place<'_>,
 ) -> usize
     requires { Between n k count a b frag.old held.old }
     ensures { Leaves n k count frag.old held.old result frag.new held.new (hold_link n k a b (held_tables n count frag.old held.old)) }
 {
-    if may_hold(frag, held, n, k, count, a, b, told, block, at) {
+    if may_hold(frag, held, n, k, count, a, b, place) {
         hold(frag, held, n, count, a, b);
         note_held(frag, n, a, b);
         return count + 1;

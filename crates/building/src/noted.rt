@@ -5,11 +5,18 @@ ghost use Rattle.building.specs.Noted.{Ends, Noted, Apart, Askable, Answers, Fla
 
 use crate::links::is_among;
 use index::{FLAG, look};
-use lists::Link;
 use state::{State, clear};
 
 // The first section of the index.
 pub(crate) const NOTED: usize = 7;
+
+// Where a link stands that is told: at byte `at` of a block, with `entries` before it in the pass.
+#[derive(Clone, Copy)]
+pub(crate) struct Place<'a> {
+    pub(crate) block: &'a [u8],
+    pub(crate) at: usize,
+    pub(crate) entries: u32,
+}
 
 // The word of a link, the smaller end in the high part.
 fn word_of(a: usize, b: usize) -> u32
@@ -130,25 +137,25 @@ fn block_end(len: usize, at: usize, most: usize) -> usize
     at.saturating_add(at / 2).saturating_add(most).min(len)
 }
 
-// Links of a block from one byte to another are noted, until 4·n are.
-fn note_links(frag: &mut [u32], n: usize, first: u32, block: &[u8], from: usize, end: usize)
-    requires { Fresh n frag.old × (end ≤ length block.now) }
+// Links of a block from a place up to byte `end` are noted, until 4·n are.
+fn note_links(frag: &mut [u32], n: usize, place: Place<'_>, end: usize)
+    requires { Fresh n frag.old × (end ≤ length place.block.now) }
     ensures { Fresh n frag.new × Apart n frag.old frag.new }
 {
-    let mut told = first;
-    let mut at = from;
+    let mut told = place.entries;
+    let mut at = place.at;
     let mut c = 0;
     while at < end {
         if 4 * n <= c {
             return;
         }
-        match lists::link_at(n as u32, told, block, at) {
-            Link::Ends(a, b, next) => {
+        match lists::link_at(n as u32, told, place.block, at) {
+            Ok((a, b, next)) => {
                 c += note_one(frag, n, a as usize, b as usize);
                 told += 1;
                 at = next;
             }
-            Link::Refused(_) => {
+            Err(_) => {
                 return;
             }
         }
@@ -156,25 +163,17 @@ fn note_links(frag: &mut [u32], n: usize, first: u32, block: &[u8], from: usize,
 }
 
 // The links noted so far give way to those that follow in the block.
-fn note_anew(
-    frag: &mut [u32],
-    held: &[u32],
-    n: usize,
-    count: usize,
-    told: u32,
-    block: &[u8],
-    at: usize,
-)
+fn note_anew(frag: &mut [u32], held: &[u32], n: usize, count: usize, place: Place<'_>)
     requires { Anew n count frag.old held.now }
     ensures { Noted n (held_links count held.now) frag.new × Apart n frag.old frag.new }
 {
     clear(frag, NOTED * n, State::WORDS * n);
-    let end = block_end(block.len(), at, 2 * count + 1024);
-    note_links(frag, n, told, block, at, end);
+    let end = block_end(place.block.len(), place.at, 2 * count + 1024);
+    note_links(frag, n, place, end);
     set_flags(frag, held, n, count);
 }
 
-// Whether the link between a and b is held. `told` entries came before byte `at` of the block, where this link is told.
+// Whether the link between a and b, which is told at this place, is held.
 pub(crate) fn is_held(
     frag: &mut [u32],
     held: &[u32],
@@ -182,9 +181,7 @@ pub(crate) fn is_held(
     count: usize,
     a: usize,
     b: usize,
-    told: u32,
-    block: &[u8],
-    at: usize,
+    place: Place<'_>,
 ) -> bool
     requires { Askable n count a b frag.old held.now }
     ensures { Answers n count a b frag.old held.now result frag.new }
@@ -197,6 +194,6 @@ pub(crate) fn is_held(
         return false;
     }
     let answer = is_among(held, 0, count, a, b);
-    note_anew(frag, held, n, count, told, block, at);
+    note_anew(frag, held, n, count, place);
     answer
 }

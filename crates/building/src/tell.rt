@@ -6,8 +6,7 @@ ghost use Rattle.building.specs.Noted.{Ends};
 ghost use Rattle.building.specs.Telling.{Leaves, Telling, Notable, noting, Rest, Tells, MayTell, TellsAll};
 
 use crate::hold::hold_link;
-use crate::noted::note_all;
-use lists::Link;
+use crate::noted::{Place, note_all};
 use pieces::POINTER;
 use state::{State, clear};
 use tables::{NOTE, better_note, note_at, rank_at};
@@ -22,7 +21,7 @@ fn note_link(frag: &mut [u32], n: usize, u: usize, p: usize)
     frag[NOTE * n + u] = note as u32;
 }
 
-// One link, which begins at byte `at` of the block, by which of its ends are placed. Returns how many links are held now.
+// One link, by which of its ends are placed. Returns how many links are held now.
 fn build_link(
     frag: &mut [u32],
     held: &mut [u32],
@@ -31,9 +30,7 @@ fn build_link(
     count: usize,
     a: usize,
     b: usize,
-    told: u32,
-    block: &[u8],
-    at: usize,
+    place: Place<'_>,
 ) -> usize
     requires { Telling n k count frag.old held.old × Ends n a b }
     ensures { Leaves n k count frag.old held.old result frag.new held.new (build_link n k (held_tables n count frag.old held.old) (a, b)) }
@@ -49,7 +46,7 @@ fn build_link(
         note_link(frag, n, a, b);
         return count;
     }
-    hold_link(frag, held, n, k, count, a, b, told, block, at)
+    hold_link(frag, held, n, k, count, a, b, place)
 }
 
 // The links of a block that was scanned, one after another. Returns how many links are held now.
@@ -70,14 +67,19 @@ fn tell_links(
     let mut at: usize = 0;
     while at < block.len() {
         match lists::link_at(n as u32, told, block, at) {
-            Link::Ends(a, b, next) => {
+            Ok((a, b, next)) => {
                 let a = a as usize;
                 let b = b as usize;
-                count = build_link(frag, held, n, k, count, a, b, told, block, at);
+                let place = Place {
+                    block,
+                    at,
+                    entries: told,
+                };
+                count = build_link(frag, held, n, k, count, a, b, place);
                 told += 1;
                 at = next;
             }
-            Link::Refused(_) => {
+            Err(_) => {
                 return count;
             }
         }

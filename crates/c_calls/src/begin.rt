@@ -2,19 +2,18 @@
 ghost use Rattle.std.specs.Prelude.{◌≡◌};
 ghost use Rattle.c_calls.specs.Call.{returned, short_refusal, c_start, c_adopt};
 
-use c_words::{STATE, end_begin, wide};
-use forest::{State, adopt};
+use c_words::{STATE, end_state, wide};
+use forest::{State, Why, adopt};
 use state::bounds;
 
 // The refusal due where the array is too short for a state.
 fn short(n: usize, k: usize, frags: usize, helds: usize) -> u32
     ensures { result ≡ short_refusal n k frags helds }
 {
-    let refusal = bounds(n, k, frags, helds);
-    if refusal == 0 {
-        return 3;
+    match bounds(n, k, frags, helds) {
+        Ok(()) => Why::Short.number(),
+        Err(why) => why.number(),
     }
-    refusal
 }
 
 // Building with nothing placed.
@@ -32,7 +31,7 @@ pub extern "C" fn welmocant_start(
         return short(wide(n), wide(k), frag.len(), held.len());
     }
     let started = State::start(wide(n), wide(k), frag, held);
-    end_begin(started, state)
+    end_state(started, state)
 }
 
 // Built, with a forest made elsewhere: the parent of each fragment, itself for a root.
@@ -51,5 +50,5 @@ pub extern "C" fn welmocant_adopt(
         return short(wide(n), wide(k), frag.len(), held.len());
     }
     let started = adopt(wide(n), wide(k), parents, frag, held);
-    end_begin(started, state)
+    end_state(started, state)
 }

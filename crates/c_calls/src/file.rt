@@ -4,7 +4,7 @@ ghost use Rattle.lists.specs.List.{cut_block};
 ghost use Rattle.c_calls.specs.File.{head_reply, c_head};
 
 use lists::{bad_size, cut};
-use numbers::{Read, read_number};
+use numbers::read_number;
 
 // The head of a list file, from its first bytes: the number of fragments, and the byte where the links begin.
 #[unsafe(no_mangle)]
@@ -12,7 +12,7 @@ pub extern "C" fn welmocant_head(file: &[u8], n: &mut u32, begins: &mut u64) -> 
     ensures { head_reply result n.new begins.new ≡ c_head file.now }
 {
     match read_number(file, 0) {
-        Read::Number(value, next) => {
+        Ok((value, next)) => {
             if bad_size(value) {
                 *n = 0;
                 *begins = 0;
@@ -22,10 +22,10 @@ pub extern "C" fn welmocant_head(file: &[u8], n: &mut u32, begins: &mut u64) -> 
             *begins = next as u64;
             0
         }
-        Read::Refused(r) => {
+        Err(why) => {
             *n = 0;
             *begins = 0;
-            r.number
+            why.number()
         }
     }
 }

@@ -2,8 +2,7 @@
 ghost use Rattle.std.specs.Prelude.{◌≡◌};
 ghost use Rattle.c_calls.specs.Lists.{write_reply, link_reply, c_write_list, c_link_at};
 
-use lists::{Link, link_at};
-use numbers::Written;
+use lists::link_at;
 use writing::write_list;
 
 // Writes a list of n fragments, its links as words, two each, to the front of `buffer`; its bytes, 0 where it is refused.
@@ -17,13 +16,13 @@ pub extern "C" fn welmocant_write_list(
     ensures { write_reply result size.new buffer.new ≡ c_write_list n words.now buffer.old }
 {
     match write_list(n, words, buffer) {
-        Written::End(end) => {
+        Ok(end) => {
             *size = end as u64;
             0
         }
-        Written::Refused(bad) => {
+        Err(why) => {
             *size = 0;
-            bad.number
+            why.number()
         }
     }
 }
@@ -42,13 +41,13 @@ pub extern "C" fn welmocant_link_at(
     ensures { link_reply result a.new b.new next.new ≡ c_link_at n entries block.now at }
 {
     match link_at(n, entries, block, at) {
-        Link::Ends(first, second, after) => {
+        Ok((first, second, after)) => {
             *a = first;
             *b = second;
             *next = after as u64;
             0
         }
-        Link::Refused(bad) => {
+        Err(bad) => {
             *a = 0;
             *b = 0;
             *next = bad.place as u64;

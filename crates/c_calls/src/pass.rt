@@ -2,7 +2,7 @@
 ghost use Rattle.std.specs.Prelude.{◌≡◌};
 ghost use Rattle.c_calls.specs.Call.{returned, c_open, c_take, c_close};
 
-use c_words::{STATE, end_close, end_open, end_take, unpack};
+use c_words::{STATE, end_close, end_state, end_take, unpack};
 use forest::{Stage, close, open_reading, take};
 
 // From Built or Read to Reading.
@@ -19,7 +19,7 @@ pub extern "C" fn welmocant_open_reading(
     }
     let given = unpack(Stage::Building, state);
     let taken = open_reading(given, frag, held);
-    end_open(taken, state)
+    end_state(taken, state)
 }
 
 // A block of whole links, in Building and Reading; where it is refused, the place.

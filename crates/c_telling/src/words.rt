@@ -1,7 +1,7 @@
 // A telling in an array of words.
 ghost use Rattle.std.specs.Prelude.{◌≡◌};
 ghost use Rattle.telling.specs.Tell.{next_does};
-ghost use Rattle.c_telling.specs.Telling.{step_in, have_in, telling_in, step_word, rest_words, telling_words, heard_in};
+ghost use Rattle.c_telling.specs.Telling.{have_in, telling_in, rest_words, telling_words, heard_in};
 ghost use Rattle.c_telling.specs.Answers.{ended, does_end};
 
 use c_words::{high, joined, low, pack, unpack, word};
@@ -18,21 +18,6 @@ const OVER: u32 = 3;
 const FAILED: usize = 18446744073709551615;
 
 const NO_FILE: usize = 18446744073709551614;
-
-fn step_in(word: u32) -> Step
-    ensures { result ≡ step_in word }
-{
-    if word == 0 {
-        return Step::First;
-    }
-    if word == 1 {
-        return Step::Head;
-    }
-    if word == 2 {
-        return Step::Links;
-    }
-    Step::Over
-}
 
 // How many bytes stand at the buffer's front. Where the telling is over none do: its words have the size of the text there.
 fn have_in(step: u32, low: u32, high: u32) -> usize
@@ -51,7 +36,7 @@ pub fn telling_in(words: &[u32]) -> Telling
     let step = word(words, 7);
     Telling {
         state: unpack(Stage::Built, words),
-        step: step_in(step),
+        step: Step::try_from(step).unwrap_or(Step::Over),
         offset: joined(word(words, 8), word(words, 9)),
         have: have_in(step, word(words, 10), word(words, 11)),
     }
@@ -73,17 +58,6 @@ pub fn heard_in(heard: usize) -> Heard
     Heard::Bytes(heard)
 }
 
-fn step_word(step: Step) -> u32
-    ensures { result ≡ step_word step }
-{
-    match step {
-        Step::First => 0,
-        Step::Head => 1,
-        Step::Links => 2,
-        Step::Over => 3,
-    }
-}
-
 // Writes the words behind those of the state; an array too short stays as it is.
 fn put_rest(step: u32, place: usize, count: usize, number: u32, words: &mut [u32])
     ensures { words.new ≡ rest_words step place count number words.old }
@@ -103,9 +77,8 @@ fn put_rest(step: u32, place: usize, count: usize, number: u32, words: &mut [u32
 pub fn put_telling(t: Telling, words: &mut [u32])
     ensures { words.new ≡ telling_words t words.old }
 {
-    let step = t.step;
     pack(t.state, words);
-    put_rest(step_word(step), t.offset, t.have, 0, words);
+    put_rest(u32::from(t.step), t.offset, t.have, 0, words);
 }
 
 // Writes what a telling answered, and returns its number.

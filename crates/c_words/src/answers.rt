@@ -3,45 +3,34 @@ ghost use Rattle.std.specs.Prelude.{◌≡◌};
 ghost use Rattle.c_words.specs.Answers.{reply, ended, begun_end, opened_end, taken_end, closed_end, asked_reply, judged_reply};
 
 use crate::words::pack;
-use state::{Asked, Closed, Judged, Started, Taken};
+use numbers::{Refusal, Why};
+use state::{Closed, State};
 
-// Start and adopt: writes the state to begin with.
-pub fn end_begin(started: Started, words: &mut [u32]) -> u32
-    ensures { ended result 0 words.new ≡ begun_end started words.old }
+// Start, adopt and open reading: writes the state to go on with.
+pub fn end_state(answer: Result<State, Refusal>, words: &mut [u32]) -> u32
+    ensures begun { ended result 0 words.new ≡ begun_end answer words.old }
+    ensures opened { ended result 0 words.new ≡ opened_end answer words.old }
 {
-    match started {
-        Started::Ready(s) => {
+    match answer {
+        Ok(s) => {
             pack(s, words);
             0
         }
-        Started::Refused(r) => r.number,
-    }
-}
-
-// Open reading: writes the state to go on with.
-pub fn end_open(taken: Taken, words: &mut [u32]) -> u32
-    ensures { ended result 0 words.new ≡ opened_end taken words.old }
-{
-    match taken {
-        Taken::On(s) => {
-            pack(s, words);
-            0
-        }
-        Taken::Refused(r) => r.number,
+        Err(r) => r.number,
     }
 }
 
 // Take: writes the state to go on with, or the place of the refusal.
-pub fn end_take(taken: Taken, words: &mut [u32], place: &mut u64) -> u32
+pub fn end_take(taken: Result<State, Refusal>, words: &mut [u32], place: &mut u64) -> u32
     ensures { ended result place.new words.new ≡ taken_end taken words.old }
 {
     match taken {
-        Taken::On(s) => {
+        Ok(s) => {
             pack(s, words);
             *place = 0;
             0
         }
-        Taken::Refused(r) => {
+        Err(r) => {
             *place = r.place as u64;
             r.number
         }
@@ -49,47 +38,34 @@ pub fn end_take(taken: Taken, words: &mut [u32], place: &mut u64) -> u32
 }
 
 // Close: writes how the pass ended and the state that it leaves, or the place of the refusal.
-pub fn end_close(closed: Closed, words: &mut [u32], ending: &mut u64) -> u32
+pub fn end_close(closed: Result<Closed, Refusal>, words: &mut [u32], ending: &mut u64) -> u32
     ensures { ended result ending.new words.new ≡ closed_end closed words.old }
 {
-    match closed {
-        Closed::More(s) => {
-            pack(s, words);
-            *ending = 0;
-            0
-        }
-        Closed::Done(s) => {
-            pack(s, words);
-            *ending = 1;
-            0
-        }
-        Closed::Read(s) => {
-            pack(s, words);
-            *ending = 2;
-            0
-        }
-        Closed::False(s) => {
-            pack(s, words);
-            *ending = 0;
-            9
-        }
-        Closed::Refused(r) => {
+    let (s, how, number) = match closed {
+        Ok(Closed::More(s)) => (s, 0, 0),
+        Ok(Closed::Done(s)) => (s, 1, 0),
+        Ok(Closed::Read(s)) => (s, 2, 0),
+        Ok(Closed::False(s)) => (s, 0, Why::Differs.number()),
+        Err(r) => {
             *ending = r.place as u64;
-            r.number
+            return r.number;
         }
-    }
+    };
+    pack(s, words);
+    *ending = how;
+    number
 }
 
 // A question: writes the number asked for, or the place of the refusal.
-pub fn tell(asked: Asked, answer: &mut u64) -> u32
+pub fn tell(asked: Result<usize, Refusal>, answer: &mut u64) -> u32
     ensures { reply result answer.new ≡ asked_reply asked }
 {
     match asked {
-        Asked::Number(x) => {
+        Ok(x) => {
             *answer = x as u64;
             0
         }
-        Asked::Refused(r) => {
+        Err(r) => {
             *answer = r.place as u64;
             r.number
         }
@@ -97,21 +73,8 @@ pub fn tell(asked: Asked, answer: &mut u64) -> u32
 }
 
 // The same, of yes and no.
-pub fn judge(judged: Judged, answer: &mut u64) -> u32
+pub fn judge(judged: Result<bool, Refusal>, answer: &mut u64) -> u32
     ensures { reply result answer.new ≡ judged_reply judged }
 {
-    match judged {
-        Judged::Yes => {
-            *answer = 1;
-            0
-        }
-        Judged::No => {
-            *answer = 0;
-            0
-        }
-        Judged::Refused(r) => {
-            *answer = r.place as u64;
-            r.number
-        }
-    }
+    tell(judged.map(usize::from), answer)
 }

@@ -1,7 +1,7 @@
 // States and the answers of the calls in words, for callers that know arrays and numbers only.
 #![tactic(auto)]
 
-pub use answers::{end_begin, end_close, end_open, end_take, judge, tell};
+pub use answers::{end_close, end_state, end_take, judge, tell};
 pub use pairs::{high, joined, low};
 pub use words::{STATE, pack, unpack, wide, word};
 

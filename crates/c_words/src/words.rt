@@ -1,6 +1,6 @@
 // A state in an array of words.
 ghost use Rattle.std.specs.Prelude.{◌≡◌, get_or};
-ghost use Rattle.c_words.specs.State.{stage_in, entries_in, state_in, stage_word, mark_word, word_for, state_words};
+ghost use Rattle.c_words.specs.State.{entries_in, state_in, word_for, state_words};
 
 use state::{Stage, State};
 
@@ -31,24 +31,6 @@ fn word_at(words: &[u32], i: usize) -> usize
     wide(word(words, i))
 }
 
-fn stage_in(other: Stage, word: usize) -> Stage
-    ensures { result ≡ stage_in other word }
-{
-    if word == 0 {
-        return Stage::Building;
-    }
-    if word == 1 {
-        return Stage::Built;
-    }
-    if word == 2 {
-        return Stage::Reading;
-    }
-    if word == 3 {
-        return Stage::Read;
-    }
-    other
-}
-
 fn entries_in(entries: usize, mark: usize) -> usize
     ensures { result ≡ entries_in entries mark }
 {
@@ -62,35 +44,17 @@ fn entries_in(entries: usize, mark: usize) -> usize
 pub fn unpack(other: Stage, words: &[u32]) -> State
     ensures { result ≡ state_in other words.now }
 {
-    let stage = stage_in(other, word_at(words, 2));
     let mark = word_at(words, 6);
     let entries = entries_in(word_at(words, 4), mark);
     State {
         n: word_at(words, 0),
         k: word_at(words, 1),
-        stage,
+        stage: Stage::try_from(word(words, 2)).unwrap_or(other),
         passes: word_at(words, 3),
         entries,
         held: word_at(words, 5),
         crossed: mark == 1,
     }
-}
-
-fn stage_word(stage: Stage) -> u32
-    ensures { result ≡ stage_word stage }
-{
-    match stage {
-        Stage::Building => 0,
-        Stage::Built => 1,
-        Stage::Reading => 2,
-        Stage::Read => 3,
-    }
-}
-
-fn mark_word(mark: bool) -> u32
-    ensures { result ≡ mark_word mark }
-{
-    if mark { 1 } else { 0 }
 }
 
 fn word_for(x: usize) -> u32
@@ -106,12 +70,11 @@ pub fn pack(s: State, words: &mut [u32])
     if words.len() < STATE {
         return;
     }
-    let stage = s.stage;
     words[0] = word_for(s.n);
     words[1] = word_for(s.k);
-    words[2] = stage_word(stage);
+    words[2] = u32::from(s.stage);
     words[3] = word_for(s.passes);
     words[4] = word_for(s.entries);
     words[5] = word_for(s.held);
-    words[6] = mark_word(s.crossed);
+    words[6] = u32::from(s.crossed);
 }

@@ -78,22 +78,14 @@ pub(crate) fn all_placed(frag: &[u32], n: usize) -> bool
 }
 
 // A pass ends: it is counted, and its entries are forgotten.
-pub fn close(s: State, frag: &mut [u32], held: &mut [u32]) -> Closed
+pub fn close(s: State, frag: &mut [u32], held: &mut [u32]) -> Result<Closed, Refusal>
     ensures { closed_told s result frag.new held.new ≡ close_in is_building s frag.old held.old }
 {
-    let passes = s.passes;
-    let refusal = gathered(s, frag, held);
-    if refusal != 0 {
-        return Closed::Refused(Refusal {
-            number: refusal,
-            place: 0,
-        });
+    gathered(s, frag, held)?;
+    end_pass(frag, held, s.n, s.held);
+    let counted = s.passes + 1;
+    if all_placed(frag, s.n) {
+        return Ok(Closed::Done(s.moved(Stage::Built, counted, 0, 0, false)));
     }
-    let n = s.n;
-    end_pass(frag, held, n, s.held);
-    let counted = passes + 1;
-    if all_placed(frag, n) {
-        return Closed::Done(s.moved(Stage::Built, counted, 0, 0, false));
-    }
-    Closed::More(s.moved(Stage::Building, counted, 0, 0, false))
+    Ok(Closed::More(s.moved(Stage::Building, counted, 0, 0, false)))
 }

@@ -22,22 +22,14 @@ fn after_at(held: &[u32], i: usize) -> usize
     (held[i] / RADIX) as usize
 }
 
-// The place of v among the smaller neighbours of b.
+// The place of v among the smaller neighbours of b, which rise.
 fn place_of(frag: &[u32], held: &[u32], n: usize, b: usize, v: usize) -> usize
     requires { Findable n b v frag.now held.now }
     ensures { Found n b v frag.now held.now result }
 {
-    let mut low = frag[START * n + b] as usize;
-    let mut high = frag[START * n + (b + 1)] as usize;
-    while low + 1 < high {
-        let middle = (low + high) / 2;
-        if v < smaller_at(held, middle) {
-            high = middle;
-        } else {
-            low = middle;
-        }
-    }
-    low
+    let first = frag[START * n + b] as usize;
+    let end = frag[START * n + (b + 1)] as usize;
+    first + held[first + 1..end].partition_point(|w| (*w % RADIX) as usize <= v)
 }
 
 // The place of the next unplaced one of the smaller neighbours of v, or the place where they end.

@@ -2,7 +2,7 @@
 -- (Promises.antt; Calls.antt: every answer of the code does), a run is calls with their answers (Run.antt). Behind each theorem stands the instance of P1 to
 -- P10 that meets its premises (Laws.Met). That P1 to P10 themselves hold of the calls, as one table, is Known.known-calls.
 -- Assumes nothing.
-use Rattle.std.specs.Prelude.{ℕ, ◌+◌, ◌≤◌, ◌<◌, ◌≡◌, refl, List, ◌++◌, ◌⊎◌, ◌↔◌, T, length, drop}
+use Rattle.std.specs.Prelude.{ℕ, ◌+◌, ◌≤◌, ◌<◌, ◌≡◌, refl, List, ◌++◌, ◌⊎◌, ◌↔◌, T, length, drop, Ok, Err}
 use Rattle.std.proofs.Common.{sym, ap, ◌∙◌, inl, inr, arith}
 use Rattle.base.specs.Answer.{Answer, gives}
 use Rattle.base.specs.Truth.{T_dec}
@@ -31,10 +31,7 @@ use Rattle.state.proofs.Laws.KeepsBegun.{start_keeps, adopt_keeps}
 use Rattle.state.proofs.Laws.KeepsLeft.{take_makes, open_makes}
 use Rattle.state.proofs.Laws.KeepsTables.{reads_settled}
 use Rattle.state.specs.declared.State.{State}
-use Rattle.state.specs.declared.Started.TheVariants.{Ready, Refused as Unstarted}
-use Rattle.state.specs.declared.Taken.TheVariants.{Refused as Untaken}
-use Rattle.state.specs.declared.Closed.TheVariants.{False, Refused as Unclosed}
-use Rattle.state.specs.declared.Asked.TheVariants.{Number}
+use Rattle.state.specs.declared.Closed.TheVariants.{False}
 use Rattle.demands.specs.Promises.{Asks, StartAnswer, AdoptAnswer, TakeAnswer, OpenAnswer, CloseAnswer, PieceAnswer, goes_on, ends_building, ends_read, ends_false, changes}
 use Rattle.demands.specs.Run.{Origin, start, adopt, Call, close, Moment, Answered, next, TakeAt, CloseAt, OpenAt, ParentAt, LevelAt, PieceAt, SoleAt, CutAt, BeginAnswer, Run, begins, goes, calls, closes_in, accepted_closes, fragments, tables_of, tables_at}
 use Rattle.demands.specs.Course.{Adds, PassTells, AllTell, build_calls, read_calls}
@@ -74,21 +71,21 @@ pub some_run : {o : Origin} {m : Moment} (r : Run o m) (cs : List Call) → (w :
 some_run r cs = let (q, e) = follow r cs in (_, q, e)
 
 -- 'a refused call changes no byte': of any state and any tables, those of no run included. A refusal gives no state: the caller's stays. (met-refused, met-open, met-close.)
-pub demand_1_take : (s : State) (f h block : List ℕ) (a : TakeAnswer s f h block) (r : Refusal) → a.answer ≡ Untaken r → (a.frag ≡ f) × (a.held ≡ h)
+pub demand_1_take : (s : State) (f h block : List ℕ) (a : TakeAnswer s f h block) (r : Refusal) → a.answer ≡ Err r → (a.frag ≡ f) × (a.held ≡ h)
 demand_1_take s f h block a r e = let (x, p, q) = taken_refused a r e in let (_, u, v) = take_unchanged s f h block _ _ x in (p ∙ u, q ∙ v)
 
-pub demand_1_open : (s : State) (f h : List ℕ) (a : OpenAnswer s f h) (r : Refusal) → a.answer ≡ Untaken r → (a.frag ≡ f) × (a.held ≡ h)
+pub demand_1_open : (s : State) (f h : List ℕ) (a : OpenAnswer s f h) (r : Refusal) → a.answer ≡ Err r → (a.frag ≡ f) × (a.held ≡ h)
 demand_1_open s f h a r e = let (x, p, q) = taken_refused a r e in let (_, u, v) = open_unchanged s f h _ _ x in (p ∙ u, q ∙ v)
 
 -- Close tells a refusal that changes something by an answer of its own.
-pub demand_1_close : (s : State) (f h : List ℕ) (a : CloseAnswer s f h) (r : Refusal) → a.answer ≡ Unclosed r → (T (changes r.number) → ⊥) × (a.frag ≡ f) × (a.held ≡ h)
+pub demand_1_close : (s : State) (f h : List ℕ) (a : CloseAnswer s f h) (r : Refusal) → a.answer ≡ Err r → (T (changes r.number) → ⊥) × (a.frag ≡ f) × (a.held ≡ h)
 demand_1_close = close_refused
 
 -- A refused start or adopt leaves the words as they were lent. (met-start; P10: met-adopt.)
-pub demand_1_start : (n k : ℕ) (f h : List ℕ) (a : StartAnswer n k f h) (r : Refusal) → a.answer ≡ Unstarted r → (a.frag ≡ f) × (a.held ≡ h)
+pub demand_1_start : (n k : ℕ) (f h : List ℕ) (a : StartAnswer n k f h) (r : Refusal) → a.answer ≡ Err r → (a.frag ≡ f) × (a.held ≡ h)
 demand_1_start n k f h a r e = let (x, p, q) = begun_refused a r e in let (u, v) = (start_keeps n k f h).same _ _ x in (p ∙ u, q ∙ v)
 
-pub demand_1_adopt : (n k : ℕ) (ps f h : List ℕ) (a : AdoptAnswer n k ps f h) (r : Refusal) → a.answer ≡ Unstarted r → (a.frag ≡ f) × (a.held ≡ h)
+pub demand_1_adopt : (n k : ℕ) (ps f h : List ℕ) (a : AdoptAnswer n k ps f h) (r : Refusal) → a.answer ≡ Err r → (a.frag ≡ f) × (a.held ≡ h)
 demand_1_adopt n k ps f h a r e = let (x, p, q) = begun_refused a r e in let (u, v) = (adopt_keeps n k f h ps).same _ _ x in (p ∙ u, q ∙ v)
 
 -- A question changes nothing, whatever it answers: only piece is lent a table to write in.
@@ -96,7 +93,7 @@ pub demand_1_piece : (s : State) (f h : List ℕ) (v : ℕ) (a : PieceAnswer s f
 demand_1_piece s f h v a = a.promise.1
 
 -- 'only a false reading pass loses its notes' (P8: met-lost.)
-pub demand_1_false : (s : State) (f h : List ℕ) (a : CloseAnswer s f h) (s' : State) → a.answer ≡ False s' → NotesLost s f h s' a.frag a.held
+pub demand_1_false : (s : State) (f h : List ℕ) (a : CloseAnswer s f h) (s' : State) → a.answer ≡ Ok (False s') → NotesLost s f h s' a.frag a.held
 demand_1_false = close_lost
 
 -- 'What an accepted call leaves, or a refusal that changes something, passes this test': at every moment of every run no refusal 1, 2, 3 or 11 is due.
@@ -127,7 +124,7 @@ pub demand_2_forest : {n k : ℕ} {m : Moment} → Run (start n k) m → (InBuil
 demand_2_forest r = forest_finished (run_holds r)
 
 -- The finished table is what is answered for parents, and a level is the number of steps to the root.
-pub demand_2_parents : {o : Origin} {m : Moment} → Run o m → (InBuilding m → ⊥) → (v : ℕ) → v < fragments o → (a : ParentAt m v) → a.answer ≡ Number (par (tables_at m) v)
+pub demand_2_parents : {o : Origin} {m : Moment} → Run o m → (InBuilding m → ⊥) → (v : ℕ) → v < fragments o → (a : ParentAt m v) → a.answer ≡ Ok (par (tables_at m) v)
 demand_2_parents r = answers_parent (run_holds r)
 
 pub demand_2_levels : {o : Origin} {m : Moment} → Run o m → (InBuilding m → ⊥) → (v : ℕ) → v < fragments o → (a : LevelAt m v) → Gives (StepsToRoot (par (tables_at m)) v) a.answer
@@ -146,16 +143,16 @@ demand_2_false r = false_exactly (run_holds r)
 
 -- A table of parents is adopted exactly when its parents are fragments and lead to roots; else it is refused with 10. (P10: met-cycle.)
 module _ (n k : ℕ) (ps f h : List ℕ) (b : bounds_refusal n k (length f) (length h) ≡ 0) (l : n ≤ length ps) where
-  pub demand_2_adopts : (a : AdoptAnswer n k ps f h) → Leading n ps → a.answer ≡ Ready (adopted_state n k)
+  pub demand_2_adopts : (a : AdoptAnswer n k ps f h) → Leading n ps → a.answer ≡ Ok (adopted_state n k)
   demand_2_adopts a x = begun_given a _ (adopt_good n k ps f h b l x)
 
-  pub demand_2_ten : (a : AdoptAnswer n k ps f h) → (Leading n ps → ⊥) → a.answer ≡ Unstarted (record { number = 10; place = 0 })
+  pub demand_2_ten : (a : AdoptAnswer n k ps f h) → (Leading n ps → ⊥) → a.answer ≡ Err (record { number = 10; place = 0 })
   demand_2_ten a x = begun_number a 10 0 (adopt_ten n k ps f h b l x)
 
   -- 'A forest from elsewhere is accepted exactly when this holds': every table of parents is accepted, and its reading accepted, exactly when it is a depth-first
   -- forest of the list read. (P8: met-adopted.)
   pub demand_2_adopted : (a : AdoptAnswer n k ps f h) (blocks : List (List ℕ)) (g : List Link) → Adds n 0 blocks g
-      → ((a.answer ≡ Ready (adopted_state n k)) × ((m : Moment) (r : Run (adopt n k ps) m) → calls r ≡ read_calls blocks → InRead m)) ↔ DepthFirst n (parent_in ps) (linked g)
+      → ((a.answer ≡ Ok (adopted_state n k)) × ((m : Moment) (r : Run (adopt n k ps) m) → calls r ≡ read_calls blocks → InRead m)) ↔ DepthFirst n (parent_in ps) (linked g)
   unfolding calls
   demand_2_adopted a blocks g d = (
     (λ (e, read). let (r, c) = follow (begins f h a (adopted_state n k) e) (read_calls blocks) in (adopted_reads r blocks g d c).0 (read _ r c)),

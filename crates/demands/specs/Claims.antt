@@ -1,6 +1,6 @@
 -- What the demands say of a call and of the moments of runs. Definitions only.
 -- Assumes nothing.
-use Rattle.std.specs.Prelude.{ℕ, ◌<◌, ◌≤◌, ◌≡◌, List, ◌≢◌, T}
+use Rattle.std.specs.Prelude.{ℕ, ◌<◌, ◌≤◌, ◌≡◌, List, ◌≢◌, T, Ok, Err, true, false}
 use Rattle.numbers.specs.declared.Refusal.{Refusal}
 use Rattle.rules.specs.Links.{Links, Tells}
 use Rattle.rules.specs.Removal.{Sole, Cut, Piece}
@@ -13,13 +13,8 @@ use Rattle.state.specs.Test.{is_building, is_reading, is_read}
 use Rattle.state.specs.Call.{moved}
 use Rattle.state.specs.declared.State.{State}
 use Rattle.state.specs.declared.Stage.TheVariants.{Built}
-use Rattle.state.specs.declared.Taken.TheVariants.{Refused as Untaken}
-use Rattle.state.specs.declared.Closed.TheVariants.{Refused as Unclosed}
-use Rattle.state.specs.declared.Asked.{Asked}
-use Rattle.state.specs.declared.Asked.TheVariants.{Number, Refused as Unasked}
-use Rattle.state.specs.declared.Judged.{Judged}
-use Rattle.state.specs.declared.Judged.TheVariants.{Yes, No, Refused as Unjudged}
 use Rattle.demands.specs.Run.{start, Moment, TakeAt, CloseAt, OpenAt, ParentAt, LevelAt, PieceAt, CutAt, SoleAt, Run}
+use Rattle.state.specs.Answers.{Asked, Judged}
 
 -- The stage of a moment.
 abbrev pub InBuilding : Moment → Type 0
@@ -33,14 +28,14 @@ InRead m = T (is_read m.state.stage)
 
 -- A question is answered with a number that has a property,
 abbrev pub Gives : (ℕ → Type 0) → Asked → Type 0
-Gives P (Number x) = P x
-Gives P (Unasked r) = ⊥
+Gives P (Ok x) = P x
+Gives P (Err r) = ⊥
 
 -- or with yes or no, yes exactly when something holds.
 abbrev pub Decides : Type 0 → Judged → Type 0
-Decides P Yes = P
-Decides P No = P → ⊥
-Decides P (Unjudged r) = ⊥
+Decides P (Ok true) = P
+Decides P (Ok false) = P → ⊥
+Decides P (Err r) = ⊥
 
 -- Not '10: an adopted parent is n or more, or parents run in a cycle of two or more'.
 abbrev pub Leading : ℕ → List ℕ → Type 0
@@ -61,16 +56,16 @@ pub record NotesLost (s : State) (f h : List ℕ) (s' : State) (f' h' : List ℕ
   pub frag_after : f' ≡ frag_of Built s.n (clear_notes s.n (tables_in s f h)) f
   pub held_after : h' ≡ h
 
--- No call at a moment is refused with x.
+-- (Ok false) call at a moment is refused with x.
 pub record Never (m : Moment) (x : ℕ) : Type 0 where
-  pub take_never : (block : List ℕ) (a : TakeAt m block) (r : Refusal) → a.answer ≡ Untaken r → r.number ≢ x
-  pub close_never : (a : CloseAt m) (r : Refusal) → a.answer ≡ Unclosed r → r.number ≢ x
-  pub open_never : (a : OpenAt m) (r : Refusal) → a.answer ≡ Untaken r → r.number ≢ x
-  pub parent_never : (v : ℕ) (a : ParentAt m v) (r : Refusal) → a.answer ≡ Unasked r → r.number ≢ x
-  pub level_never : (v : ℕ) (a : LevelAt m v) (r : Refusal) → a.answer ≡ Unasked r → r.number ≢ x
-  pub piece_never : (v : ℕ) (a : PieceAt m v) (r : Refusal) → a.answer ≡ Unasked r → r.number ≢ x
-  pub cut_never : (v : ℕ) (a : CutAt m v) (r : Refusal) → a.answer ≡ Unjudged r → r.number ≢ x
-  pub sole_never : (u v : ℕ) (a : SoleAt m u v) (r : Refusal) → a.answer ≡ Unjudged r → r.number ≢ x
+  pub take_never : (block : List ℕ) (a : TakeAt m block) (r : Refusal) → a.answer ≡ Err r → r.number ≢ x
+  pub close_never : (a : CloseAt m) (r : Refusal) → a.answer ≡ Err r → r.number ≢ x
+  pub open_never : (a : OpenAt m) (r : Refusal) → a.answer ≡ Err r → r.number ≢ x
+  pub parent_never : (v : ℕ) (a : ParentAt m v) (r : Refusal) → a.answer ≡ Err r → r.number ≢ x
+  pub level_never : (v : ℕ) (a : LevelAt m v) (r : Refusal) → a.answer ≡ Err r → r.number ≢ x
+  pub piece_never : (v : ℕ) (a : PieceAt m v) (r : Refusal) → a.answer ≡ Err r → r.number ≢ x
+  pub cut_never : (v : ℕ) (a : CutAt m v) (r : Refusal) → a.answer ≡ Err r → r.number ≢ x
+  pub sole_never : (u v : ℕ) (a : SoleAt m u v) (r : Refusal) → a.answer ≡ Err r → r.number ≢ x
 
 -- 'those that taking the link or fragment away would show': every question about the n fragments is answered, and truly of the list read last.
 pub record Truly (n : ℕ) (m : Moment) : Type 0 where

@@ -1,7 +1,7 @@
 -- What a call answered, and how it left the tables: an answer and tables that meet the promise of the function, which stands here as in its contract. (That this
 -- is what the checker reads in the contracts of `State::start` and of the functions of `forest` is Calls.antt.) Definitions only.
 -- Assumes nothing.
-use Rattle.std.specs.Prelude.{ℕ, ◌≡◌, Bool, true, false, List, eqb}
+use Rattle.std.specs.Prelude.{ℕ, ◌≡◌, Bool, true, false, List, eqb, Ok, Err}
 use Rattle.base.specs.Answer.{Answer}
 use Rattle.state.specs.Call.{Begun, Left}
 use Rattle.state.specs.Start.{start_call}
@@ -9,15 +9,9 @@ use Rattle.state.specs.Adopt.{adopt_call}
 use Rattle.state.specs.Take.{take_call}
 use Rattle.state.specs.Close.{Ending, open_call, close_call}
 use Rattle.state.specs.Ask.{parent_call, level_call, piece_call, cut_call, sole_call}
-use Rattle.state.specs.Answers.{begun_told, taken_told, closed_told, asked_told, judged_told}
+use Rattle.state.specs.Answers.{Asked, Ended, Judged, Started, Taken, begun_told, taken_told, closed_told, asked_told, judged_told}
 use Rattle.state.specs.declared.State.{State}
-use Rattle.state.specs.declared.Started.{Started}
-use Rattle.state.specs.declared.Taken.{Taken}
-use Rattle.state.specs.declared.Taken.TheVariants.{On, Refused as Untaken}
-use Rattle.state.specs.declared.Closed.{Closed}
-use Rattle.state.specs.declared.Closed.TheVariants.{More, Done, Read, False, Refused as Unclosed}
-use Rattle.state.specs.declared.Asked.{Asked}
-use Rattle.state.specs.declared.Judged.{Judged}
+use Rattle.state.specs.declared.Closed.TheVariants.{More, Done, Read, False}
 
 -- A call that begins a state and is to leave x.
 pub record Begins (x : Begun) : Type 0 where
@@ -47,7 +41,7 @@ OpenAnswer s f h = Takes s (open_call s f h)
 
 -- A close.
 pub record Closes (s : State) (x : Left Ending) : Type 0 where
-  pub answer : Closed
+  pub answer : Ended
   pub frag : List ℕ
   pub held : List ℕ
   pub promise : closed_told s answer frag held ≡ x
@@ -82,32 +76,32 @@ pub record PieceAnswer (s : State) (f h : List ℕ) (v : ℕ) : Type 0 where
 
 -- How a call went. Take and open reading: accepted.
 abbrev pub goes_on : Taken → Bool
-goes_on (On s) = true
-goes_on (Untaken r) = false
+goes_on (Ok s) = true
+goes_on (Err r) = false
 
 -- 'Close ends a pass: in Building it answers more or done'
-abbrev pub ends_building : Closed → Bool
-ends_building (More s) = true
-ends_building (Done s) = true
-ends_building (Read s) = false
-ends_building (False s) = false
-ends_building (Unclosed r) = false
+abbrev pub ends_building : Ended → Bool
+ends_building (Ok (More s)) = true
+ends_building (Ok (Done s)) = true
+ends_building (Ok (Read s)) = false
+ends_building (Ok (False s)) = false
+ends_building (Err r) = false
 
 -- 'in Reading it gives Read
-abbrev pub ends_read : Closed → Bool
-ends_read (More s) = false
-ends_read (Done s) = false
-ends_read (Read s) = true
-ends_read (False s) = false
-ends_read (Unclosed r) = false
+abbrev pub ends_read : Ended → Bool
+ends_read (Ok (More s)) = false
+ends_read (Ok (Done s)) = false
+ends_read (Ok (Read s)) = true
+ends_read (Ok (False s)) = false
+ends_read (Err r) = false
 
 -- or refusal 9.'
-abbrev pub ends_false : Closed → Bool
-ends_false (More s) = false
-ends_false (Done s) = false
-ends_false (Read s) = false
-ends_false (False s) = true
-ends_false (Unclosed r) = false
+abbrev pub ends_false : Ended → Bool
+ends_false (Ok (More s)) = false
+ends_false (Ok (Done s)) = false
+ends_false (Ok (Read s)) = false
+ends_false (Ok (False s)) = true
+ends_false (Err r) = false
 
 -- The refusals that change something: 9, 'the one refusal that changes anything'.
 abbrev pub changes : ℕ → Bool

@@ -1,6 +1,6 @@
 -- Runs of calls: 'runs in which each call gets the state and tables as the call before left them', and what each pass of a run told. Definitions only.
 -- Assumes nothing.
-use Rattle.std.specs.Prelude.{ℕ, suc, ◌≡◌, List, [], ◌∷◌, ◌++◌}
+use Rattle.std.specs.Prelude.{ℕ, suc, ◌≡◌, List, [], ◌∷◌, ◌++◌, Ok}
 use Rattle.base.specs.Pick.{pick}
 use Rattle.base.specs.Answer.{Answer, gives, refuses}
 use Rattle.base.specs.Link.{Link}
@@ -17,7 +17,6 @@ use Rattle.state.specs.Adopt.{adopt_call}
 use Rattle.state.specs.Close.{Ending, more, whole, read}
 use Rattle.state.specs.Answers.{taken_told, closed_told}
 use Rattle.state.specs.declared.State.{State}
-use Rattle.state.specs.declared.Started.TheVariants.{Ready}
 use Rattle.demands.specs.Promises.{Begins, TakeAnswer, OpenAnswer, CloseAnswer, ParentAnswer, LevelAnswer, PieceAnswer, SoleAnswer, CutAnswer, ends_building, changes}
 
 -- The call that a run begins with.
@@ -131,7 +130,7 @@ opening s f h = record { state = s; frag = f; held = h; told = []; telling = [] 
 
 -- A run has come to a moment: an accepted first call, then any calls, refused ones included, with whatever they answered.
 pub data Run (o : Origin) : Moment → Type 0 where
-  begins : (f h : List ℕ) (a : BeginAnswer o f h) (s : State) → a.answer ≡ Ready s → Run o (opening s a.frag a.held)
+  begins : (f h : List ℕ) (a : BeginAnswer o f h) (s : State) → a.answer ≡ Ok s → Run o (opening s a.frag a.held)
   goes : {m : Moment} → Run o m → (c : Call) (a : Answered m c) → Run o (next m c a)
 
 -- The calls of a run after the first.

@@ -1,10 +1,12 @@
 // The head of a call in Building, where the held links are tested: the refusals 1, 2, 3, 6 and 11, this one but for the quota of the pieces.
 ghost use Rattle.std.specs.Prelude.{◌≡◌};
+ghost use Rattle.numbers.specs.Answers.{due};
 ghost use Rattle.state.specs.Layout.{forest_in, held_links};
 ghost use Rattle.differing.specs.Links.{links_differ, head_but_quota, Lookable};
 
 use crate::ends::ends_fit;
 use crate::twice::none_twice;
+use numbers::Why;
 use state::{State, clear, is_building};
 use tables::STORED;
 use testing::head;
@@ -24,17 +26,13 @@ fn links_differ(frag: &mut [u32], held: &[u32], n: usize, k: usize, count: usize
     true
 }
 
-// The refusal that is due, 0 where none is. Scratch is 0 again.
-pub fn head_but_quota(s: State, frag: &mut [u32], held: &[u32]) -> u32
-    ensures { (result ≡ head_but_quota s frag.old held.now) × (frag.new ≡ frag.old) }
+// The refusal that is due. Scratch is 0 again.
+pub fn head_but_quota(s: State, frag: &mut [u32], held: &[u32]) -> Result<(), Why>
+    ensures { (due result ≡ head_but_quota s frag.old held.now) × (frag.new ≡ frag.old) }
 {
-    let stage = s.stage;
-    let refusal = head(s, is_building(stage), frag, held);
-    if refusal != 0 {
-        return refusal;
-    }
+    head(s, is_building(s.stage), frag, held)?;
     if !links_differ(frag, held, s.n, s.k, s.held) {
-        return 11;
+        return Err(Why::Tables);
     }
-    0
+    Ok(())
 }

@@ -1,5 +1,5 @@
 // Whether a link is held twice: the held words noted in scratch, class by class.
-ghost use Rattle.std.specs.Prelude.{◌≤◌, ◌≡◌};
+ghost use Rattle.std.specs.Prelude.{◌≤◌, ◌≡◌, eqb};
 ghost use Rattle.index.specs.Index.{Indexed};
 ghost use Rattle.differing.specs.Batches.{Open, classes_most, class_of, Batchable, Batches, Recalls, Missable, Misses, Comparable, Sifts, Compares};
 
@@ -7,13 +7,22 @@ use index::look;
 use state::{State, clear};
 use tables::STORED;
 
-// Which of so many classes a word is in: equal words are in one. The factor is not that of `home`, so that the words of a class spread over all slots.
-fn class_of(classes: usize, w: u32) -> usize
-    requires { classes ≤ classes_most }
-    ensures { result ≡ class_of classes w }
-{
-    let spread = w as u64 * 2246822519 % 4294967296;
-    (spread * classes as u64 / 4294967296) as usize
+// A class of words by its number, of so many.
+#[derive(Clone, Copy)]
+struct Class {
+    number: usize,
+    of: usize,
+}
+
+impl Class {
+    // Whether a word is in the class: equal words are in one. The factor is not that of `home`, so that the words of a class spread over all slots.
+    fn has(self, w: u32) -> bool
+        requires { self.of ≤ classes_most }
+        ensures { result ≡ eqb (class_of self.of w) self.number }
+    {
+        let spread = w as u64 * 2246822519 % 4294967296;
+        (spread * self.of as u64 / 4294967296) as usize == self.number
+    }
 }
 
 // Held words of class c from one place on are noted, to another or until one finds no slot. Returns where it stopped; 0 where a word was noted already.
@@ -24,15 +33,14 @@ fn note_batch(
     size: usize,
     from: usize,
     to: usize,
-    c: usize,
-    classes: usize,
+    c: Class,
 ) -> usize
-    requires { Batchable at size from to classes frag.old held.now }
-    ensures { Batches at size from to c classes frag.old held.now result frag.new }
+    requires { Batchable at size from to c.of frag.old held.now }
+    ensures { Batches at size from to c.number c.of frag.old held.now result frag.new }
 {
     for i in from..to {
         let w = held[i];
-        if class_of(classes, w) != c {
+        if !c.has(w) {
             continue;
         }
         let s = look(frag, at, size as u32, w);
@@ -63,15 +71,14 @@ fn none_noted(
     size: usize,
     from: usize,
     to: usize,
-    c: usize,
-    classes: usize,
+    c: Class,
 ) -> bool
-    requires { Missable at size from to classes frag.now held.now }
-    ensures { Misses at size from to c classes frag.now held.now result }
+    requires { Missable at size from to c.of frag.now held.now }
+    ensures { Misses at size from to c.number c.of frag.now held.now result }
 {
     for i in from..to {
         let w = held[i];
-        if class_of(classes, w) == c && is_noted(frag, at, size, w) {
+        if c.has(w) && is_noted(frag, at, size, w) {
             return false;
         }
     }
@@ -79,24 +86,17 @@ fn none_noted(
 }
 
 // No word of class c is held twice. As a rule one batch notes them all. Where one finds no slot, those behind the batch are looked up, and noted in further batches.
-fn class_differs(
-    frag: &mut [u32],
-    held: &[u32],
-    n: usize,
-    count: usize,
-    c: usize,
-    classes: usize,
-) -> bool
-    requires { Comparable n count frag.old held.now × (classes ≤ classes_most) }
-    ensures { Sifts n count c classes frag.old held.now result frag.new }
+fn class_differs(frag: &mut [u32], held: &[u32], n: usize, count: usize, c: Class) -> bool
+    requires { Comparable n count frag.old held.now × (c.of ≤ classes_most) }
+    ensures { Sifts n count c.number c.of frag.old held.now result frag.new }
 {
     let mut base = 0;
     while base < count {
-        let end = note_batch(frag, held, 4 * n, 12 * n, base, count, c, classes);
+        let end = note_batch(frag, held, 4 * n, 12 * n, base, count, c);
         if end == 0 {
             return false;
         }
-        if !none_noted(frag, held, 4 * n, 12 * n, end, count, c, classes) {
+        if !none_noted(frag, held, 4 * n, 12 * n, end, count, c) {
             return false;
         }
         clear(frag, STORED * n, State::WORDS * n);
@@ -111,8 +111,12 @@ pub(crate) fn none_twice(frag: &mut [u32], held: &[u32], n: usize, count: usize)
     ensures { Compares n count frag.old held.now result frag.new }
 {
     let classes = count / (8 * n + 1) + 1;
-    for c in 0..classes {
-        if !class_differs(frag, held, n, count, c, classes) {
+    for number in 0..classes {
+        let c = Class {
+            number,
+            of: classes,
+        };
+        if !class_differs(frag, held, n, count, c) {
             return false;
         }
     }

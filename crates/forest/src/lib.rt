@@ -8,17 +8,16 @@ ghost use Rattle.state.specs.Answers.{taken_told, closed_told};
 
 pub use adopting::adopt;
 pub use asking::{cut, level, parent, piece, sole};
-pub use numbers::Refusal;
+pub use numbers::{Refusal, Why};
 pub use reading::open_reading;
 use state::is_building;
-pub use state::{Asked, Closed, Judged, Stage, Started, State, Taken};
+pub use state::{Closed, Stage, State};
 
 // Takes a block of links, in Building and in Reading.
-pub fn take(s: State, frag: &mut [u32], held: &mut [u32], block: &[u8]) -> Taken
+pub fn take(s: State, frag: &mut [u32], held: &mut [u32], block: &[u8]) -> Result<State, Refusal>
     ensures { taken_told s result frag.new held.new ≡ take_call s frag.old held.old block.now }
 {
-    let stage = s.stage;
-    if is_building(stage) {
+    if is_building(s.stage) {
         building::take(s, frag, held, block)
     } else {
         reading::take(s, frag, held, block)
@@ -26,11 +25,10 @@ pub fn take(s: State, frag: &mut [u32], held: &mut [u32], block: &[u8]) -> Taken
 }
 
 // Ends a pass, in Building and in Reading.
-pub fn close(s: State, frag: &mut [u32], held: &mut [u32]) -> Closed
+pub fn close(s: State, frag: &mut [u32], held: &mut [u32]) -> Result<Closed, Refusal>
     ensures { closed_told s result frag.new held.new ≡ close_call s frag.old held.old }
 {
-    let stage = s.stage;
-    if is_building(stage) {
+    if is_building(s.stage) {
         closing::close(s, frag, held)
     } else {
         reading::close(s, frag, held)

@@ -10,7 +10,7 @@ ghost use Rattle.text.specs.Put.{Put, Line, ample};
 ghost use Rattle.lines.specs.Report.{fragment_at, lines_to, report_lines, report_call};
 ghost use Rattle.lines.specs.Threads.{Answered, Threadable, Threaded};
 
-use numbers::{Written, not_written};
+use numbers::Why;
 use reaches::{CUT, PIECE};
 use state::{State, clear, wide};
 use tables::{SCRATCH, parent_at};
@@ -50,27 +50,24 @@ fn all_lines(s: State, frag: &[u32], out: &mut [u8]) -> usize
 }
 
 // The text is gone through twice: for its length, and to write it.
-fn written(s: State, frag: &mut [u32], out: &mut [u8]) -> Written
+fn written(s: State, frag: &mut [u32], out: &mut [u8]) -> Result<usize, Why>
     requires { Threadable s.n frag.old }
     ensures { (wrote result out.new ≡ store out.old (report_lines s.n s.entries s.passes (forest_in s.n frag.old))) × Only (10 * s.n) (12 * s.n) frag.old frag.new }
 {
     thread(frag, s.n);
     let size = all_lines(s, frag, &mut out[..0]);
     if out.len() < size {
-        return not_written(3);
+        return Err(Why::Short);
     }
     all_lines(s, frag, out);
-    Written::End(size)
+    Ok(size)
 }
 
 // Writes the report of a state in Read. The fragment table is lent to work in; it is left as found.
-pub fn report(s: State, frag: &mut [u32], held: &[u32], out: &mut [u8]) -> Written
+pub fn report(s: State, frag: &mut [u32], held: &[u32], out: &mut [u8]) -> Result<usize, Why>
     ensures { (wrote result out.new ≡ report_call s frag.old held.now out.old) × (frag.new ≡ frag.old) }
 {
-    let refusal = reaches::spread(s, frag, held);
-    if refusal != 0 {
-        return not_written(refusal);
-    }
+    reaches::spread(s, frag, held)?;
     let end = written(s, frag, out);
     clear(frag, SCRATCH * s.n, State::WORDS * s.n);
     end

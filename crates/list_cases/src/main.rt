@@ -2,8 +2,7 @@
 // and what was got. What is expected is worked out by hand from document 01.
 #![tactic(auto)]
 
-use lists::{Link, Listed, Scanned};
-use numbers::{Refusal, Written};
+use numbers::{Refusal, Why};
 use std::io;
 
 fn text(rt: &impl Print, s: &str) -> io::Result<()> {
@@ -46,55 +45,61 @@ fn words(rt: &impl Print, s: &[u32]) -> io::Result<()> {
     Ok(())
 }
 
-fn refusal(number: u32, place: usize) -> Refusal {
-    Refusal {
-        number: number,
-        place: place,
-    }
-}
-
 fn show_refusal(rt: &impl Print, r: Refusal) -> io::Result<()> {
     labelled(rt, " refused ", r.number as u64)?;
     labelled(rt, " at ", r.place as u64)
 }
 
-fn show_scanned(rt: &impl Print, label: &str, s: Scanned) -> io::Result<()> {
+fn show_scanned(rt: &impl Print, label: &str, s: Result<u32, Refusal>) -> io::Result<()> {
     text(rt, label)?;
     match s {
-        Scanned::Links(count) => labelled(rt, " links ", count as u64),
-        Scanned::Refused(r) => show_refusal(rt, r),
+        Ok(count) => labelled(rt, " links ", count as u64),
+        Err(r) => show_refusal(rt, r),
     }
 }
 
-fn show_link(rt: &impl Print, label: &str, l: Link) -> io::Result<()> {
+fn show_link(
+    rt: &impl Print,
+    label: &str,
+    l: Result<(u32, u32, usize), Refusal>,
+) -> io::Result<()> {
     text(rt, label)?;
     match l {
-        Link::Ends(a, b, next) => {
+        Ok((a, b, next)) => {
             labelled(rt, " ends ", a as u64)?;
             word(rt, b)?;
             labelled(rt, " next ", next as u64)
         }
-        Link::Refused(r) => show_refusal(rt, r),
+        Err(r) => show_refusal(rt, r),
     }
 }
 
-fn show_listed(rt: &impl Print, label: &str, l: Listed) -> io::Result<()> {
+fn show_listed(
+    rt: &impl Print,
+    label: &str,
+    l: Result<(u32, usize, u32), Refusal>,
+) -> io::Result<()> {
     text(rt, label)?;
     match l {
-        Listed::List(n, begins, count) => {
+        Ok((n, begins, count)) => {
             labelled(rt, " fragments ", n as u64)?;
             labelled(rt, " begins ", begins as u64)?;
             labelled(rt, " links ", count as u64)
         }
-        Listed::Refused(r) => show_refusal(rt, r),
+        Err(r) => show_refusal(rt, r),
     }
 }
 
-fn show_written(rt: &impl Print, label: &str, w: Written, after: &[u8]) -> io::Result<()> {
+fn show_written(
+    rt: &impl Print,
+    label: &str,
+    w: Result<usize, Why>,
+    after: &[u8],
+) -> io::Result<()> {
     text(rt, label)?;
     match w {
-        Written::End(end) => labelled(rt, " end ", end as u64),
-        Written::Refused(r) => show_refusal(rt, r),
+        Ok(end) => labelled(rt, " end ", end as u64),
+        Err(why) => show_refusal(rt, Refusal::from(why)),
     }?;
     listing(rt, ",", after)
 }
@@ -104,7 +109,7 @@ fn scanned(
     n: u32,
     entries: u32,
     block: &[u8],
-    expected: Scanned,
+    expected: Result<u32, Refusal>,
 ) -> io::Result<()> {
     listing(rt, ":", block)?;
     show_scanned(rt, ": expected", expected)?;
@@ -113,23 +118,27 @@ fn scanned(
 }
 
 // A scan with n = 4.
-fn scan_case(rt: &impl Print, entries: u32, block: &[u8], expected: Scanned) -> io::Result<()> {
+fn scan_case(
+    rt: &impl Print,
+    entries: u32,
+    block: &[u8],
+    expected: Result<u32, Refusal>,
+) -> io::Result<()> {
     labelled(rt, "scan after ", entries as u64)?;
     scanned(rt, 4, entries, block, expected)
 }
 
-fn bad_scan(
-    rt: &impl Print,
-    entries: u32,
-    block: &[u8],
-    number: u32,
-    place: usize,
-) -> io::Result<()> {
-    scan_case(rt, entries, block, Scanned::Refused(refusal(number, place)))
+fn bad_scan(rt: &impl Print, entries: u32, block: &[u8], why: Why, place: usize) -> io::Result<()> {
+    scan_case(rt, entries, block, Err(why.at(place)))
 }
 
 // A scan with another n.
-fn sized_scan(rt: &impl Print, n: u32, block: &[u8], expected: Scanned) -> io::Result<()> {
+fn sized_scan(
+    rt: &impl Print,
+    n: u32,
+    block: &[u8],
+    expected: Result<u32, Refusal>,
+) -> io::Result<()> {
     labelled(rt, "scan n ", n as u64)?;
     scanned(rt, n, 0, block, expected)
 }
@@ -140,7 +149,7 @@ fn linked(
     entries: u32,
     block: &[u8],
     at: usize,
-    expected: Link,
+    expected: Result<(u32, u32, usize), Refusal>,
 ) -> io::Result<()> {
     listing(rt, ":", block)?;
     labelled(rt, " from ", at as u64)?;
@@ -155,31 +164,41 @@ fn link_case(
     entries: u32,
     block: &[u8],
     at: usize,
-    expected: Link,
+    expected: Result<(u32, u32, usize), Refusal>,
 ) -> io::Result<()> {
     labelled(rt, "link after ", entries as u64)?;
     linked(rt, 4, entries, block, at, expected)
 }
 
-fn bad_link(rt: &impl Print, entries: u32, block: &[u8], at: usize, number: u32) -> io::Result<()> {
-    link_case(rt, entries, block, at, Link::Refused(refusal(number, at)))
+fn bad_link(rt: &impl Print, entries: u32, block: &[u8], at: usize, why: Why) -> io::Result<()> {
+    link_case(rt, entries, block, at, Err(why.at(at)))
 }
 
 // A link with another n.
-fn sized_link(rt: &impl Print, n: u32, block: &[u8], at: usize, expected: Link) -> io::Result<()> {
+fn sized_link(
+    rt: &impl Print,
+    n: u32,
+    block: &[u8],
+    at: usize,
+    expected: Result<(u32, u32, usize), Refusal>,
+) -> io::Result<()> {
     labelled(rt, "link n ", n as u64)?;
     linked(rt, n, 0, block, at, expected)
 }
 
-fn list_case(rt: &impl Print, file: &[u8], expected: Listed) -> io::Result<()> {
+fn list_case(
+    rt: &impl Print,
+    file: &[u8],
+    expected: Result<(u32, usize, u32), Refusal>,
+) -> io::Result<()> {
     listing(rt, "list", file)?;
     show_listed(rt, ": expected", expected)?;
     show_listed(rt, ", got", lists::read_list(file))?;
     println!(rt)
 }
 
-fn bad_list(rt: &impl Print, file: &[u8], number: u32, place: usize) -> io::Result<()> {
-    list_case(rt, file, Listed::Refused(refusal(number, place)))
+fn bad_list(rt: &impl Print, file: &[u8], why: Why, place: usize) -> io::Result<()> {
+    list_case(rt, file, Err(why.at(place)))
 }
 
 fn cut_case(rt: &impl Print, part: &[u8], expected: usize) -> io::Result<()> {
@@ -195,7 +214,7 @@ fn write_case(
     n: u32,
     links: &[u32],
     room: usize,
-    expected: Written,
+    expected: Result<usize, Why>,
     after: &[u8],
 ) -> io::Result<()> {
     let mut buffer = [170u8; 8];
@@ -221,146 +240,119 @@ fn write_into(
     Ok(())
 }
 
-fn bad_write(rt: &impl Print, n: u32, links: &[u32], number: u32) -> io::Result<()> {
-    write_case(
-        rt,
-        n,
-        links,
-        2,
-        Written::Refused(refusal(number, 0)),
-        b"\xaa\xaa",
-    )
+fn bad_write(rt: &impl Print, n: u32, links: &[u32], why: Why) -> io::Result<()> {
+    write_case(rt, n, links, 2, Err(why), b"\xaa\xaa")
 }
 
 // Document 01, with n = 4: 0-4 gives 4, 9-9 gives 4, 2-2 gives 5.
 fn known_scans(rt: &impl Print) -> io::Result<()> {
-    bad_scan(rt, 0, b"\x00\x04", 4, 0)?;
-    bad_scan(rt, 0, b"\x09\x09", 4, 0)?;
-    bad_scan(rt, 0, b"\x02\x02", 5, 0)?;
-    bad_scan(rt, 0, b"\x04\x00", 4, 0)
+    bad_scan(rt, 0, b"\x00\x04", Why::NoFragment, 0)?;
+    bad_scan(rt, 0, b"\x09\x09", Why::NoFragment, 0)?;
+    bad_scan(rt, 0, b"\x02\x02", Why::Same, 0)?;
+    bad_scan(rt, 0, b"\x04\x00", Why::NoFragment, 0)
 }
 
 fn least_scans(rt: &impl Print) -> io::Result<()> {
-    scan_case(rt, 0, b"", Scanned::Links(0))?;
-    bad_scan(rt, 0, b"\x01", 8, 0)?;
-    scan_case(rt, 0, b"\x00\x01", Scanned::Links(1))?;
-    scan_case(rt, 0, b"\x03\x00\x00\x03\x00\x03", Scanned::Links(3))
+    scan_case(rt, 0, b"", Ok(0))?;
+    bad_scan(rt, 0, b"\x01", Why::Unfinished, 0)?;
+    scan_case(rt, 0, b"\x00\x01", Ok(1))?;
+    scan_case(rt, 0, b"\x03\x00\x00\x03\x00\x03", Ok(3))
 }
 
 // Each refusal at the first, the second and the last of three links.
 fn far_scans(rt: &impl Print) -> io::Result<()> {
-    bad_scan(rt, 0, b"\x00\x04\x01\x02\x02\x03", 4, 0)?;
-    bad_scan(rt, 0, b"\x00\x01\x00\x04\x02\x03", 4, 2)?;
-    bad_scan(rt, 0, b"\x00\x01\x01\x02\x00\x04", 4, 4)
+    bad_scan(rt, 0, b"\x00\x04\x01\x02\x02\x03", Why::NoFragment, 0)?;
+    bad_scan(rt, 0, b"\x00\x01\x00\x04\x02\x03", Why::NoFragment, 2)?;
+    bad_scan(rt, 0, b"\x00\x01\x01\x02\x00\x04", Why::NoFragment, 4)
 }
 
 fn same_scans(rt: &impl Print) -> io::Result<()> {
-    bad_scan(rt, 0, b"\x02\x02\x01\x02\x02\x03", 5, 0)?;
-    bad_scan(rt, 0, b"\x00\x01\x02\x02\x02\x03", 5, 2)?;
-    bad_scan(rt, 0, b"\x00\x01\x01\x02\x02\x02", 5, 4)
+    bad_scan(rt, 0, b"\x02\x02\x01\x02\x02\x03", Why::Same, 0)?;
+    bad_scan(rt, 0, b"\x00\x01\x02\x02\x02\x03", Why::Same, 2)?;
+    bad_scan(rt, 0, b"\x00\x01\x01\x02\x02\x02", Why::Same, 4)
 }
 
 fn long_scans(rt: &impl Print) -> io::Result<()> {
-    bad_scan(rt, 0, b"\x80\x00\x01\x02\x02\x03", 7, 0)?;
-    bad_scan(rt, 0, b"\x00\x01\x80\x00\x02\x03", 7, 2)?;
-    bad_scan(rt, 0, b"\x00\x01\x01\x02\x02\x80\x00", 7, 4)?;
-    bad_scan(rt, 0, b"\x00\x01\x80\x80\x80\x01\x02", 7, 2)
+    bad_scan(rt, 0, b"\x80\x00\x01\x02\x02\x03", Why::Form, 0)?;
+    bad_scan(rt, 0, b"\x00\x01\x80\x00\x02\x03", Why::Form, 2)?;
+    bad_scan(rt, 0, b"\x00\x01\x01\x02\x02\x80\x00", Why::Form, 4)?;
+    bad_scan(rt, 0, b"\x00\x01\x80\x80\x80\x01\x02", Why::Form, 2)
 }
 
 fn ended_scans(rt: &impl Print) -> io::Result<()> {
-    bad_scan(rt, 0, b"\x00\x80", 8, 0)?;
-    bad_scan(rt, 0, b"\x00\x01\x01", 8, 2)?;
-    bad_scan(rt, 0, b"\x00\x01\x80", 8, 2)?;
-    bad_scan(rt, 0, b"\x00\x01\x01\x02\x02", 8, 4)?;
-    bad_scan(rt, 0, b"\x00\x01\x01\x02\x02\x80\x80", 8, 4)
+    bad_scan(rt, 0, b"\x00\x80", Why::Unfinished, 0)?;
+    bad_scan(rt, 0, b"\x00\x01\x01", Why::Unfinished, 2)?;
+    bad_scan(rt, 0, b"\x00\x01\x80", Why::Unfinished, 2)?;
+    bad_scan(rt, 0, b"\x00\x01\x01\x02\x02", Why::Unfinished, 4)?;
+    bad_scan(rt, 0, b"\x00\x01\x01\x02\x02\x80\x80", Why::Unfinished, 4)
 }
 
 // Entry number 16,777,215 is the last.
 fn full_scans(rt: &impl Print) -> io::Result<()> {
-    scan_case(rt, 16777215, b"", Scanned::Links(0))?;
-    scan_case(rt, 16777214, b"\x00\x01", Scanned::Links(1))?;
-    bad_scan(rt, 16777215, b"\x00\x01\x01\x02\x02\x03", 12, 0)?;
-    bad_scan(rt, 16777214, b"\x00\x01\x01\x02\x02\x03", 12, 2)?;
-    bad_scan(rt, 16777213, b"\x00\x01\x01\x02\x02\x03", 12, 4)
+    scan_case(rt, 16777215, b"", Ok(0))?;
+    scan_case(rt, 16777214, b"\x00\x01", Ok(1))?;
+    bad_scan(rt, 16777215, b"\x00\x01\x01\x02\x02\x03", Why::Entries, 0)?;
+    bad_scan(rt, 16777214, b"\x00\x01\x01\x02\x02\x03", Why::Entries, 2)?;
+    bad_scan(rt, 16777213, b"\x00\x01\x01\x02\x02\x03", Why::Entries, 4)
 }
 
 // 12 comes after the other refusals of a link, and 7 and 8 before 4.
 fn ordered_scans(rt: &impl Print) -> io::Result<()> {
-    bad_scan(rt, 4294967295, b"\x00\x01", 12, 0)?;
-    bad_scan(rt, 16777215, b"\x00\x04", 4, 0)?;
-    bad_scan(rt, 16777215, b"\x02\x02", 5, 0)?;
-    bad_scan(rt, 0, b"\x09\x80\x00", 7, 0)?;
-    bad_scan(rt, 0, b"\x09", 8, 0)
+    bad_scan(rt, 4294967295, b"\x00\x01", Why::Entries, 0)?;
+    bad_scan(rt, 16777215, b"\x00\x04", Why::NoFragment, 0)?;
+    bad_scan(rt, 16777215, b"\x02\x02", Why::Same, 0)?;
+    bad_scan(rt, 0, b"\x09\x80\x00", Why::Form, 0)?;
+    bad_scan(rt, 0, b"\x09", Why::Unfinished, 0)
 }
 
 // n is 1 to 32,768, and 1 comes before the links; 32,767 is FF FF 01.
 fn sized_scans(rt: &impl Print) -> io::Result<()> {
-    sized_scan(rt, 0, b"", Scanned::Refused(refusal(1, 0)))?;
-    sized_scan(rt, 0, b"\x00\x01", Scanned::Refused(refusal(1, 0)))?;
-    sized_scan(rt, 32768, b"\x00\xff\xff\x01", Scanned::Links(1))?;
-    sized_scan(
-        rt,
-        32769,
-        b"\x00\xff\xff\x01",
-        Scanned::Refused(refusal(1, 0)),
-    )?;
-    sized_scan(
-        rt,
-        32769,
-        b"\x00\x01\x80\x00",
-        Scanned::Refused(refusal(1, 0)),
-    )
+    sized_scan(rt, 0, b"", Err(Why::Fragments.at(0)))?;
+    sized_scan(rt, 0, b"\x00\x01", Err(Why::Fragments.at(0)))?;
+    sized_scan(rt, 32768, b"\x00\xff\xff\x01", Ok(1))?;
+    sized_scan(rt, 32769, b"\x00\xff\xff\x01", Err(Why::Fragments.at(0)))?;
+    sized_scan(rt, 32769, b"\x00\x01\x80\x00", Err(Why::Fragments.at(0)))
 }
 
 fn known_links(rt: &impl Print) -> io::Result<()> {
-    link_case(rt, 0, b"\x00\x01\x02\x03", 0, Link::Ends(0, 1, 2))?;
-    link_case(rt, 16777214, b"\x00\x01\x02\x03", 2, Link::Ends(2, 3, 4))?;
-    bad_link(rt, 16777215, b"\x00\x01\x02\x03", 2, 12)?;
-    link_case(rt, 0, b"\x00\x01\x02\x03", 1, Link::Ends(1, 2, 3))
+    link_case(rt, 0, b"\x00\x01\x02\x03", 0, Ok((0, 1, 2)))?;
+    link_case(rt, 16777214, b"\x00\x01\x02\x03", 2, Ok((2, 3, 4)))?;
+    bad_link(rt, 16777215, b"\x00\x01\x02\x03", 2, Why::Entries)?;
+    link_case(rt, 0, b"\x00\x01\x02\x03", 1, Ok((1, 2, 3)))
 }
 
 fn ended_links(rt: &impl Print) -> io::Result<()> {
-    bad_link(rt, 0, b"\x00\x01\x02\x03", 3, 8)?;
-    bad_link(rt, 0, b"\x00\x01\x02\x03", 4, 8)?;
-    bad_link(rt, 0, b"\x00\x01\x02\x03", 9, 8)
+    bad_link(rt, 0, b"\x00\x01\x02\x03", 3, Why::Unfinished)?;
+    bad_link(rt, 0, b"\x00\x01\x02\x03", 4, Why::Unfinished)?;
+    bad_link(rt, 0, b"\x00\x01\x02\x03", 9, Why::Unfinished)
 }
 
 fn sized_links(rt: &impl Print) -> io::Result<()> {
-    sized_link(rt, 0, b"\x00\x01", 0, Link::Refused(refusal(1, 0)))?;
-    sized_link(rt, 32768, b"\x00\xff\xff\x01", 0, Link::Ends(0, 32767, 4))?;
-    sized_link(
-        rt,
-        32769,
-        b"\x00\x01\x02\x03",
-        2,
-        Link::Refused(refusal(1, 0)),
-    )?;
-    sized_link(rt, 32769, b"\x00\x01", 9, Link::Refused(refusal(1, 0)))
+    sized_link(rt, 0, b"\x00\x01", 0, Err(Why::Fragments.at(0)))?;
+    sized_link(rt, 32768, b"\x00\xff\xff\x01", 0, Ok((0, 32767, 4)))?;
+    sized_link(rt, 32769, b"\x00\x01\x02\x03", 2, Err(Why::Fragments.at(0)))?;
+    sized_link(rt, 32769, b"\x00\x01", 9, Err(Why::Fragments.at(0)))
 }
 
 // The first is the list of document 01's program case; 32,768 is 80 80 02, and 32,769 is 81 80 02.
 fn known_lists(rt: &impl Print) -> io::Result<()> {
-    list_case(
-        rt,
-        b"\x04\x00\x01\x00\x02\x00\x03\x01\x02",
-        Listed::List(4, 1, 4),
-    )?;
-    list_case(rt, b"\x80\x80\x02", Listed::List(32768, 3, 0))?;
-    list_case(rt, b"\x80\x01\x00\x7f", Listed::List(128, 2, 1))
+    list_case(rt, b"\x04\x00\x01\x00\x02\x00\x03\x01\x02", Ok((4, 1, 4)))?;
+    list_case(rt, b"\x80\x80\x02", Ok((32768, 3, 0)))?;
+    list_case(rt, b"\x80\x01\x00\x7f", Ok((128, 2, 1)))
 }
 
 fn bad_headers(rt: &impl Print) -> io::Result<()> {
-    bad_list(rt, b"\x81\x80\x02", 1, 0)?;
-    bad_list(rt, b"\x00", 1, 0)?;
-    bad_list(rt, b"", 8, 0)?;
-    bad_list(rt, b"\x80\x00", 7, 0)
+    bad_list(rt, b"\x81\x80\x02", Why::Fragments, 0)?;
+    bad_list(rt, b"\x00", Why::Fragments, 0)?;
+    bad_list(rt, b"", Why::Unfinished, 0)?;
+    bad_list(rt, b"\x80\x00", Why::Form, 0)
 }
 
 fn bad_lists(rt: &impl Print) -> io::Result<()> {
-    bad_list(rt, b"\x04\x00\x01\x02", 8, 3)?;
-    bad_list(rt, b"\x04\x00\x04", 4, 1)?;
-    bad_list(rt, b"\x04\x00\x01\x02\x02", 5, 3)?;
-    bad_list(rt, b"\x80\x01\x00\x80\x01", 4, 2)
+    bad_list(rt, b"\x04\x00\x01\x02", Why::Unfinished, 3)?;
+    bad_list(rt, b"\x04\x00\x04", Why::NoFragment, 1)?;
+    bad_list(rt, b"\x04\x00\x01\x02\x02", Why::Same, 3)?;
+    bad_list(rt, b"\x80\x01\x00\x80\x01", Why::NoFragment, 2)
 }
 
 fn least_cuts(rt: &impl Print) -> io::Result<()> {
@@ -381,36 +373,22 @@ fn known_cuts(rt: &impl Print) -> io::Result<()> {
 
 fn least_writes(rt: &impl Print) -> io::Result<()> {
     let none: [u32; 0] = [];
-    write_case(rt, 4, &none, 2, Written::End(1), b"\x04\xaa")?;
+    write_case(rt, 4, &none, 2, Ok(1), b"\x04\xaa")?;
     let two = [0u32, 1, 0, 2];
-    write_case(
-        rt,
-        4,
-        &two,
-        8,
-        Written::End(5),
-        b"\x04\x00\x01\x00\x02\xaa\xaa\xaa",
-    )?;
-    write_case(rt, 4, &two, 5, Written::End(5), b"\x04\x00\x01\x00\x02")
+    write_case(rt, 4, &two, 8, Ok(5), b"\x04\x00\x01\x00\x02\xaa\xaa\xaa")?;
+    write_case(rt, 4, &two, 5, Ok(5), b"\x04\x00\x01\x00\x02")
 }
 
 fn known_writes(rt: &impl Print) -> io::Result<()> {
     let two = [0u32, 1, 0, 2];
-    write_case(
-        rt,
-        4,
-        &two,
-        4,
-        Written::Refused(refusal(3, 0)),
-        b"\xaa\xaa\xaa\xaa",
-    )?;
+    write_case(rt, 4, &two, 4, Err(Why::Short), b"\xaa\xaa\xaa\xaa")?;
     let wide = [32767u32, 0];
     write_case(
         rt,
         32768,
         &wide,
         8,
-        Written::End(7),
+        Ok(7),
         b"\x80\x80\x02\xff\xff\x01\x00\xaa",
     )
 }
@@ -418,20 +396,20 @@ fn known_writes(rt: &impl Print) -> io::Result<()> {
 // In the order of the tests: 1, then 4 and 5 by first bad link, then 8, then 3.
 fn bad_writes(rt: &impl Print) -> io::Result<()> {
     let far = [0u32, 4, 2, 2, 1];
-    bad_write(rt, 0, &far, 1)?;
-    bad_write(rt, 32769, &far, 1)?;
-    bad_write(rt, 4, &far, 4)?;
+    bad_write(rt, 0, &far, Why::Fragments)?;
+    bad_write(rt, 32769, &far, Why::Fragments)?;
+    bad_write(rt, 4, &far, Why::NoFragment)?;
     let same = [2u32, 2, 0, 4, 1];
-    bad_write(rt, 4, &same, 5)
+    bad_write(rt, 4, &same, Why::Same)
 }
 
 fn more_writes(rt: &impl Print) -> io::Result<()> {
     let nine = [9u32, 9];
-    bad_write(rt, 4, &nine, 4)?;
+    bad_write(rt, 4, &nine, Why::NoFragment)?;
     let odd = [0u32, 1, 4];
-    bad_write(rt, 4, &odd, 8)?;
+    bad_write(rt, 4, &odd, Why::Unfinished)?;
     let one = [0u32, 1];
-    bad_write(rt, 4, &one, 3)
+    bad_write(rt, 4, &one, Why::Short)
 }
 
 fn scans(rt: &impl Print) -> io::Result<()> {

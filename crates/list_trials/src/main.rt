@@ -4,11 +4,13 @@
 
 ghost use Rattle.std.specs.Prelude.{◌≤◌};
 
-use lists::{Link, Listed, Scanned};
-use numbers::{Refusal, Written};
+use numbers::{Refusal, Why};
 use std::io;
 
 const TRIALS: usize = 20000;
+
+// What no refusal has for its number.
+const DIFFER: u32 = 99;
 
 // How often the two readings agreed, by answer, and how often they differed.
 #[derive(Drop)]
@@ -23,7 +25,7 @@ struct Tally {
 }
 
 // The second reading's state: the groups of a number so far, the link's first number where it is read, where the link begins.
-#[derive(Drop)]
+#[derive(Clone, Copy)]
 struct Reading {
     value: u64,
     groups: u32,
@@ -31,7 +33,6 @@ struct Reading {
     ends: u32,
     start: usize,
     links: u32,
-    bad: u32,
 }
 
 // Lehmer's generator of modulus 2^31 - 1.
@@ -57,99 +58,60 @@ fn count(n: u32) -> u32 {
     if n < 1000000 { n + 1 } else { n }
 }
 
-fn bad(r: Reading, number: u32) -> Reading {
-    Reading {
-        value: 0,
-        groups: 0,
-        first: 0,
-        ends: 0,
-        start: r.start,
-        links: r.links,
-        bad: number,
-    }
-}
-
 // A link's second number is read.
-fn link(r: Reading, n: u32, entries: u32, value: u64, after: usize) -> Reading {
+fn link(r: Reading, n: u32, entries: u32, value: u64, after: usize) -> Result<Reading, Why> {
     if r.first >= n as u64 || value >= n as u64 {
-        return bad(r, 4);
+        return Err(Why::NoFragment);
     }
     if r.first == value {
-        return bad(r, 5);
+        return Err(Why::Same);
     }
     if entries as u64 + r.links as u64 >= 16777215 {
-        return bad(r, 12);
+        return Err(Why::Entries);
     }
-    Reading {
+    Ok(Reading {
         value: 0,
         groups: 0,
         first: 0,
         ends: 0,
         start: after,
         links: count(r.links),
-        bad: 0,
-    }
+    })
 }
 
 // A number's last byte is read.
-fn last(r: Reading, n: u32, entries: u32, byte: u8, after: usize) -> Reading {
+fn last(r: Reading, n: u32, entries: u32, byte: u8, after: usize) -> Result<Reading, Why> {
     if byte == 0 && r.groups > 0 {
-        return bad(r, 7);
+        return Err(Why::Form);
     }
     let value = r.value % 16777216 + scaled(byte, r.groups);
     if r.ends == 1 {
         return link(r, n, entries, value, after);
     }
-    Reading {
+    Ok(Reading {
         value: 0,
         groups: 0,
         first: value,
         ends: 1,
-        start: r.start,
-        links: r.links,
-        bad: 0,
-    }
+        ..r
+    })
 }
 
-fn step(r: Reading, n: u32, entries: u32, byte: u8, after: usize) -> Reading {
-    if r.bad != 0 {
-        return r;
-    }
+fn step(r: Reading, n: u32, entries: u32, byte: u8, after: usize) -> Result<Reading, Why> {
     if byte < 128 {
         return last(r, n, entries, byte, after);
     }
     if r.groups >= 2 {
-        return bad(r, 7);
+        return Err(Why::Form);
     }
-    Reading {
+    Ok(Reading {
         value: r.value % 16777216 + scaled(byte, r.groups),
         groups: count(r.groups),
-        first: r.first,
-        ends: r.ends,
-        start: r.start,
-        links: r.links,
-        bad: 0,
-    }
+        ..r
+    })
 }
 
-fn refusal(number: u32, place: usize) -> Refusal {
-    Refusal {
-        number: number,
-        place: place,
-    }
-}
-
-fn finished(r: Reading) -> Scanned {
-    if r.bad != 0 {
-        return Scanned::Refused(refusal(r.bad, r.start));
-    }
-    if r.ends == 1 || r.groups > 0 {
-        return Scanned::Refused(refusal(8, r.start));
-    }
-    Scanned::Links(r.links)
-}
-
-fn second(n: u32, entries: u32, s: &[u8]) -> Scanned {
+fn second(n: u32, entries: u32, s: &[u8]) -> Result<u32, Refusal> {
     let mut r = Reading {
         value: 0,
         groups: 0,
@@ -157,32 +119,25 @@ fn second(n: u32, entries: u32, s: &[u8]) -> Scanned {
         ends: 0,
         start: 0,
         links: 0,
-        bad: 0,
     };
     for (i, &b) in s.iter().enumerate() {
-        r = step(r, n, entries, b, i + 1);
+        match step(r, n, entries, b, i + 1) {
+            Ok(further) => r = further,
+            Err(why) => return Err(why.at(r.start)),
+        }
     }
-    finished(r)
+    if r.ends == 1 || r.groups > 0 {
+        return Err(Why::Unfinished.at(r.start));
+    }
+    Ok(r.links)
 }
 
-// The refusal on which two answers agree, 0 where both give the same number of links, and 99 where they differ.
-fn same_refusal(p: &Refusal, q: Refusal) -> u32 {
-    if p.number != q.number {
-        return 99;
-    }
-    if p.place == q.place { p.number } else { 99 }
-}
-
-fn same(a: &Scanned, b: Scanned) -> u32 {
-    match a {
-        Scanned::Links(x) => match b {
-            Scanned::Links(y) => { if *x == y { 0 } else { 99 } }
-            Scanned::Refused(_) => 99,
-        },
-        Scanned::Refused(p) => match b {
-            Scanned::Links(_) => 99,
-            Scanned::Refused(q) => same_refusal(p, q),
-        },
+// The refusal on which two answers agree, 0 where both give the same number of links, else `DIFFER`.
+fn same(a: Result<u32, Refusal>, b: Result<u32, Refusal>) -> u32 {
+    match (a, b) {
+        (Ok(x), Ok(y)) if x == y => 0,
+        (Err(p), Err(q)) if p.number == q.number && p.place == q.place => p.number,
+        _ => DIFFER,
     }
 }
 
@@ -206,37 +161,37 @@ fn moved(place: usize, by: usize) -> usize {
     place + by
 }
 
-fn later(s: Scanned, before: u32, by: usize) -> Scanned {
-    match s {
-        Scanned::Links(x) => Scanned::Links(sum(before, x)),
-        Scanned::Refused(r) => Scanned::Refused(refusal(r.number, moved(r.place, by))),
+// What is told behind so many links and bytes.
+fn later(told: Result<u32, Refusal>, links: u32, by: usize) -> Result<u32, Refusal> {
+    match told {
+        Ok(x) => Ok(sum(links, x)),
+        Err(r) => Err(Refusal {
+            place: moved(r.place, by),
+            ..r
+        }),
     }
 }
 
 // The block told in two parts: the first `k` bytes up to the cut, and the others.
-fn parts(n: u32, entries: u32, block: &[u8], k: usize) -> Scanned {
+fn parts(n: u32, entries: u32, block: &[u8], k: usize) -> Result<u32, Refusal> {
     if k > block.len() {
-        return Scanned::Links(0);
+        return Ok(0);
     }
     let c = lists::cut(&block[..k]);
     if c > block.len() {
-        return Scanned::Links(0);
+        return Ok(0);
     }
-    match lists::scan(n, entries, &block[..c]) {
-        Scanned::Links(x) => later(lists::scan(n, sum(entries, x), &block[c..]), x, c),
-        Scanned::Refused(r) => Scanned::Refused(r),
-    }
+    let x = lists::scan(n, entries, &block[..c])?;
+    later(lists::scan(n, sum(entries, x), &block[c..]), x, c)
 }
 
 fn compared(n: u32, entries: u32, block: &[u8], seed: u64) -> u32 {
     let whole = lists::scan(n, entries, block);
     let k = (seed % 20) as usize;
-    if k <= block.len() {
-        if same(&whole, parts(n, entries, block, k)) == 99 {
-            return 99;
-        }
+    if k <= block.len() && same(whole, parts(n, entries, block, k)) == DIFFER {
+        return DIFFER;
     }
-    same(&whole, second(n, entries, block))
+    same(whole, second(n, entries, block))
 }
 
 // One byte of two is small, one of four any, and one has the top bit set.
@@ -288,58 +243,42 @@ fn damaged(n: u32, buffer: &mut [u8], end: usize, seed: u64) -> u32 {
     let first: usize = if n < 128 { 1 } else { 2 };
     let e = damage(buffer, first, end, seed);
     if first > e {
-        return 99;
+        return DIFFER;
     }
     if e > buffer.len() {
-        return 99;
+        return DIFFER;
     }
     compared(n, told(next(seed)), &buffer[first..e], next(seed))
 }
 
 // Whether the links from `begins` on are the words, to the end.
-fn links_back(n: u32, words: &[u32], file: &[u8], begins: usize) -> bool {
+fn links_back(n: u32, words: &[u32], file: &[u8], begins: usize) -> Result<bool, Refusal> {
     let mut at = begins;
     for &[u, v] in words.as_chunks::<2>().0 {
-        match lists::link_at(n, 0, file, at) {
-            Link::Ends(a, b, next) => {
-                if a != u || b != v {
-                    return false;
-                }
-                at = next;
-            }
-            Link::Refused(_) => return false,
+        let (a, b, next) = lists::link_at(n, 0, file, at)?;
+        if a != u || b != v {
+            return Ok(false);
         }
+        at = next;
     }
-    at == file.len()
+    Ok(at == file.len())
 }
 
-fn read_back(n: u32, words: &[u32], file: &[u8]) -> bool {
-    match lists::read_list(file) {
-        Listed::List(m, begins, count) => {
-            if m != n {
-                return false;
-            }
-            if count as usize * 2 != words.len() {
-                return false;
-            }
-            links_back(n, words, file, begins)
-        }
-        Listed::Refused(_) => false,
+fn read_back(n: u32, words: &[u32], file: &[u8]) -> Result<bool, Refusal> {
+    let (m, begins, count) = lists::read_list(file)?;
+    if m != n || count as usize * 2 != words.len() {
+        return Ok(false);
     }
+    links_back(n, words, file, begins)
 }
 
 fn written(n: u32, words: &[u32], buffer: &mut [u8], seed: u64) -> u32 {
     match writing::write_list(n, words, buffer) {
-        Written::Refused(_) => 99,
-        Written::End(end) => {
-            if end > buffer.len() {
-                return 99;
-            }
-            if !read_back(n, words, &buffer[..end]) {
-                return 99;
-            }
-            damaged(n, buffer, end, seed)
-        }
+        Ok(end) if end <= buffer.len() => match read_back(n, words, &buffer[..end]) {
+            Ok(true) => damaged(n, buffer, end, seed),
+            _ => DIFFER,
+        },
+        _ => DIFFER,
     }
 }
 
@@ -400,7 +339,7 @@ fn counted(t: Tally, v: u32) -> Tally {
         seven: more(t.seven, v == 7),
         eight: more(t.eight, v == 8),
         twelve: more(t.twelve, v == 12),
-        differ: more(t.differ, v == 99),
+        differ: more(t.differ, v == DIFFER),
     }
 }
 

@@ -1,18 +1,13 @@
 // Bytes and values at random, from a fixed seed: the number crate against a second reading, written here from document 01 with no loop.
-//
-// An answer is one number here: of a refusal its number, and of what was read or written 16 times the next position, and 256 times the value.
-// The places of refusals are compared by the cases that are told one by one.
 #![tactic(auto)]
 
-ghost use Rattle.std.specs.Prelude.{◌<◌};
-
-use numbers::{Read, Written};
+use numbers::Why;
 use std::io;
 
 const TRIALS: usize = 20000;
 
 // A kind of answer that no call gives.
-const DIFFER: u64 = 15;
+const DIFFER: u32 = 15;
 
 // Lehmer's generator of modulus 2^31 - 1.
 fn next(seed: u64) -> u64 {
@@ -41,94 +36,59 @@ fn block(seed: u64, s: &mut [u8]) {
     }
 }
 
-fn wide(b: u8) -> u64
-    ensures { result < 256 }
-{
-    b as u64
-}
-
-fn byte_at(s: &[u8], i: usize) -> u64
-    ensures { result < 256 }
-{
-    if i < s.len() { wide(s[i]) } else { 0 }
-}
-
 // The second reading: a byte, and what may stand behind it, with weights 1, 128 and 16,384.
-fn second(s: &[u8], at: usize) -> u64 {
-    if at >= s.len() {
-        return 8;
-    }
-    let a = byte_at(s, at);
+fn second(s: &[u8], at: usize) -> Result<(u32, usize), Why> {
+    let a = u32::from(*s.get(at).ok_or(Why::Unfinished)?);
     if a < 128 {
-        told(a, at + 1)
+        Ok((a, at + 1))
     } else {
         second_byte(a, s, at + 1)
     }
 }
 
-fn second_byte(a: u64, s: &[u8], at: usize) -> u64 {
-    if at >= s.len() {
-        return 8;
-    }
-    let b = byte_at(s, at);
+fn second_byte(a: u32, s: &[u8], at: usize) -> Result<(u32, usize), Why> {
+    let b = u32::from(*s.get(at).ok_or(Why::Unfinished)?);
     if b == 0 {
-        7
+        Err(Why::Form)
     } else if b < 128 {
-        told(a % 128 + 128 * b, at + 1)
+        Ok((a % 128 + 128 * b, at + 1))
     } else {
         third_byte(a % 128 + b % 128 * 128, s, at + 1)
     }
 }
 
-fn third_byte(low: u64, s: &[u8], at: usize) -> u64 {
-    if at >= s.len() {
-        return 8;
-    }
-    let c = byte_at(s, at);
+fn third_byte(low: u32, s: &[u8], at: usize) -> Result<(u32, usize), Why> {
+    let c = u32::from(*s.get(at).ok_or(Why::Unfinished)?);
     if c == 0 || c > 127 {
-        7
+        Err(Why::Form)
     } else {
-        told(low % 16384 + 16384 * c, at + 1)
+        Ok((low % 16384 + 16384 * c, at + 1))
     }
 }
 
-fn told(value: u64, next: usize) -> u64 {
-    value % 4294967296 * 256 + next as u64 % 16 * 16
-}
-
-fn told_read(r: Read) -> u64 {
-    match r {
-        Read::Number(value, next) => told(value as u64, next),
-        Read::Refused(q) => q.number as u64,
+// The refusal on which two answers agree, 0 where both give the same value and position, else `DIFFER`.
+fn kind(a: Result<(u32, usize), Why>, b: Result<(u32, usize), Why>) -> u32 {
+    if a != b {
+        return DIFFER;
     }
-}
-
-fn told_written(w: Written, value: u32) -> u64 {
-    match w {
-        Written::End(next) => told(value as u64, next),
-        Written::Refused(q) => q.number as u64,
+    match a {
+        Ok(_) => 0,
+        Err(why) => why.number(),
     }
-}
-
-fn kind(a: u64, b: u64) -> u64 {
-    if a == b { a % 16 } else { DIFFER }
 }
 
 // A block of up to five bytes, read from a position in it or behind it.
-fn reading(seed: u64) -> u64 {
+fn reading(seed: u64) -> u32 {
     let mut bytes = [0u8; 5];
     block(seed, &mut bytes);
     read_part(&bytes, (seed / 8 % 6) as usize, (seed / 64 % 4) as usize)
 }
 
-fn read_part(s: &[u8], len: usize, at: usize) -> u64 {
+fn read_part(s: &[u8], len: usize, at: usize) -> u32 {
     if len > s.len() {
         return DIFFER;
     }
-    kind(
-        told_read(numbers::read_number(&s[..len], at)),
-        second(&s[..len], at),
-    )
+    kind(numbers::read_number(&s[..len], at), second(&s[..len], at))
 }
 
 // A value of any length, or too great.
@@ -143,7 +103,7 @@ fn value(seed: u64, kind: u64) -> u32 {
 }
 
 // Such a value, whose width is told, into up to five bytes of aa.
-fn writing(seed: u64) -> u64 {
+fn writing(seed: u64) -> u32 {
     let mut bytes = [170u8; 5];
     let given = value(next(seed), seed % 3);
     if numbers::width(given) != size(given) {
@@ -158,18 +118,21 @@ fn writing(seed: u64) -> u64 {
 }
 
 // What the second reading reads of what was written, where the writer must write; and every other byte as it was.
-fn write_part(value: u32, s: &mut [u8], len: usize, at: usize) -> u64 {
+fn write_part(value: u32, s: &mut [u8], len: usize, at: usize) -> u32 {
     if len > s.len() {
         return DIFFER;
     }
-    let w = told_written(numbers::write_number(value, &mut s[..len], at), value);
+    let w = numbers::write_number(value, &mut s[..len], at).map(|end| (value, end));
     let bytes = size(value);
-    if value > 2097151 {
-        if kept(s, 0, 0) { kind(w, 7) } else { DIFFER }
+    let (expected, count) = if value > 2097151 {
+        (Err(Why::Form), 0)
     } else if at >= len || len - at < bytes {
-        if kept(s, 0, 0) { kind(w, 3) } else { DIFFER }
-    } else if kept(s, at, bytes) {
-        kind(w, second(&s[..len], at))
+        (Err(Why::Short), 0)
+    } else {
+        (second(&s[..len], at), bytes)
+    };
+    if kept(s, at, count) {
+        kind(w, expected)
     } else {
         DIFFER
     }
@@ -203,7 +166,7 @@ fn more(n: u64) -> u64 {
 }
 
 // Runs the trials. Each kind of answer that is to be met is `one`, `two` or a number read or written.
-fn trials(rt: &impl Print, write: bool, one: u64, two: u64) -> io::Result<()> {
+fn trials(rt: &impl Print, write: bool, one: Why, two: Why) -> io::Result<()> {
     let mut met = [0u64; 16];
     let mut seed: u64 = 2026;
     for _ in 0..TRIALS {
@@ -215,8 +178,8 @@ fn trials(rt: &impl Print, write: bool, one: u64, two: u64) -> io::Result<()> {
         rt,
         met[15],
         met[0],
-        met[(one % 16) as usize],
-        met[(two % 16) as usize],
+        met[(one.number() % 16) as usize],
+        met[(two.number() % 16) as usize],
     )
 }
 
@@ -232,7 +195,7 @@ fn show(rt: &impl Print, differ: u64, given: u64, one: u64, two: u64) -> io::Res
 
 fn main(rt: HostRuntime) -> io::Result<()> {
     print!(rt; "random reads ")?;
-    trials(&rt, false, 7, 8)?;
+    trials(&rt, false, Why::Form, Why::Unfinished)?;
     print!(rt; "random writes ")?;
-    trials(&rt, true, 7, 3)
+    trials(&rt, true, Why::Form, Why::Short)
 }

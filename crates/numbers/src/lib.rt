@@ -2,13 +2,47 @@
 #![tactic(auto)]
 
 ghost use Rattle.std.specs.Prelude.{◌≡◌, ◌+◌, ◌≤◌, get_or, length};
-ghost use Rattle.base.specs.Answer.{refuses};
 ghost use Rattle.numbers.specs.Number.{read_number, put, width_of, write_number};
-ghost use Rattle.numbers.specs.Answers.{told, told_end, wrote};
+ghost use Rattle.numbers.specs.Answers.{number_of, of_no_place, told, told_end, wrote};
 ghost use Rattle.numbers.specs.Writing.{all_groups};
 
 // The greatest value.
 const VALUE_MOST: u32 = 2097151;
+
+// Document 01's table of refusals, with its numbers.
+#[derive(Clone, Copy, PartialEq, Eq)]
+pub enum Why {
+    Fragments = 1,
+    Room = 2,
+    Short = 3,
+    NoFragment = 4,
+    Same = 5,
+    Stage = 6,
+    Form = 7,
+    Unfinished = 8,
+    Differs = 9,
+    Parents = 10,
+    Tables = 11,
+    Entries = 12,
+}
+
+impl Why {
+    pub fn number(self) -> u32
+        ensures { result ≡ number_of self }
+    {
+        self as u32
+    }
+
+    // The refusal, at a byte of a block.
+    pub fn at(self, place: usize) -> Refusal
+        ensures { (result.number ≡ number_of self) × (result.place ≡ place) }
+    {
+        Refusal {
+            number: self.number(),
+            place,
+        }
+    }
+}
 
 // A refusal: document 01's number of it, and its place.
 #[derive(Clone, Copy)]
@@ -17,66 +51,36 @@ pub struct Refusal {
     pub place: usize,
 }
 
-// A number with the position after its last byte.
-#[derive(Drop)]
-pub enum Read {
-    Number(u32, usize),
-    Refused(Refusal),
-}
+// 'and 0 otherwise'
+impl From<Why> for Refusal {
+    ghost from_gives = { of_no_place };
 
-// The position after the last byte written.
-#[derive(Drop)]
-pub enum Written {
-    End(usize),
-    Refused(Refusal),
-}
-
-fn no_number(number: u32) -> Read
-    ensures { told result ≡ refuses number 0 }
-{
-    Read::Refused(Refusal {
-        number: number,
-        place: 0,
-    })
-}
-
-// Refuses to write, at no place.
-pub fn not_written(refusal: u32) -> Written
-    ensures { told_end result ≡ refuses refusal 0 }
-{
-    Written::Refused(Refusal {
-        number: refusal,
-        place: 0,
-    })
-}
-
-fn wide(byte: u8) -> u64
-    ensures { result ≡ byte }
-{
-    byte as u64
+    fn from(why: Why) -> Refusal {
+        why.at(0)
+    }
 }
 
 // The byte at `at`, 0 where none stands.
 fn byte_at(bytes: &[u8], at: usize) -> u64
     ensures { result ≡ get_or bytes.now at 0 }
 {
-    if at < bytes.len() {
-        return wide(bytes[at]);
+    match bytes.get(at) {
+        Some(&byte) => u64::from(byte),
+        None => 0,
     }
-    0
 }
 
 // The number that stands in `bytes` at position `at`. Where a second byte follows, whether a third does is reckoned with and not asked: in a
 // long list a branch on it would be guessed wrong at every second number.
-pub fn read_number(bytes: &[u8], at: usize) -> Read
+pub fn read_number(bytes: &[u8], at: usize) -> Result<(u32, usize), Why>
     ensures { told result ≡ read_number bytes.now at }
 {
     if at >= bytes.len() {
-        return no_number(8);
+        return Err(Why::Unfinished);
     }
-    let first = wide(bytes[at]);
+    let first = u64::from(bytes[at]);
     if first < 128 {
-        return Read::Number(first as u32, at + 1);
+        return Ok((first as u32, at + 1));
     }
     let second = byte_at(bytes, at + 1);
     let third = byte_at(bytes, at + 2);
@@ -84,18 +88,18 @@ pub fn read_number(bytes: &[u8], at: usize) -> Read
     let more = second / 128;
     let next = at + 2 + more as usize;
     if next > bytes.len() {
-        return no_number(8);
+        return Err(Why::Unfinished);
     }
     let value = first % 128 + second % 128 * 128 + more * third * 16384;
     // Less where the last byte is 0, which stands only alone.
     if value < 128 + more * 16256 {
-        return no_number(7);
+        return Err(Why::Form);
     }
     // Greater where the third byte has its top bit set.
     if value > VALUE_MOST as u64 {
-        return no_number(7);
+        return Err(Why::Form);
     }
-    Read::Number(value as u32, next)
+    Ok((value as u32, next))
 }
 
 // How many groups `value` has: one, and those of the quotient.
@@ -133,19 +137,19 @@ fn put_groups(value: u32, buffer: &mut [u8], at: usize)
 }
 
 // Writes `value` into `buffer` from position `at` on, once it is known to fit.
-pub fn write_number(value: u32, buffer: &mut [u8], at: usize) -> Written
+pub fn write_number(value: u32, buffer: &mut [u8], at: usize) -> Result<usize, Why>
     ensures { wrote result buffer.new ≡ write_number value buffer.old at }
 {
     let size = width(value);
     if size == 0 {
-        return not_written(7);
+        return Err(Why::Form);
     }
     if at > buffer.len() {
-        return not_written(3);
+        return Err(Why::Short);
     }
     if buffer.len() - at < size {
-        return not_written(3);
+        return Err(Why::Short);
     }
     put_groups(value, buffer, at);
-    Written::End(at + size)
+    Ok(at + size)
 }

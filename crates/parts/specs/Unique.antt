@@ -1,27 +1,23 @@
 -- Each promise of this crate decides the answer and every lent word: two answers that say the same are equal.
 -- Assumes nothing.
-use Rattle.std.specs.Prelude.{◌≡◌, ℕ, List, refl}
+use Rattle.std.specs.Prelude.{◌≡◌, ℕ, List, refl, Ok, Err}
 use Rattle.std.proofs.Common.{sym, ap, ◌∙◌}
 use Rattle.base.specs.Answer.{Answer, gives, refuses}
 use Rattle.state.specs.declared.State.{State}
 use Rattle.parts.specs.Parts.{Header, Opens, Carry, Feeds}
-use Rattle.parts.specs.Answers.{opened_told, fed_told}
-use Rattle.parts.specs.declared.Opened.{Opened}
-use Rattle.parts.specs.declared.Opened.TheVariants.{List as Head, Refused as Unopened}
-use Rattle.parts.specs.declared.Fed.{Fed}
-use Rattle.parts.specs.declared.Fed.TheVariants.{On, Refused as Unfed}
+use Rattle.parts.specs.Answers.{Opened, Fed, opened_told, fed_told}
 
 abbrev back_open : Answer Header → Opened
-back_open (gives l) = Head l.fragments l.begins l.have
-back_open (refuses number place) = Unopened (record { number = number; place = place })
+back_open (gives l) = Ok (l.fragments, l.begins, l.have)
+back_open (refuses number place) = Err (record { number = number; place = place })
 
 open_back : (a : Opened) (b : List ℕ) → back_open (opened_told a b).answer ≡ a
-open_back (Head n begins have) b = refl
-open_back (Unopened r) b = refl
+open_back (Ok (n, begins, have)) b = refl
+open_back (Err r) b = refl
 
 open_kept : (a : Opened) (b : List ℕ) → (opened_told a b).buffer ≡ b
-open_kept (Head n begins have) b = refl
-open_kept (Unopened r) b = refl
+open_kept (Ok (n, begins, have)) b = refl
+open_kept (Err r) b = refl
 
 pub open_once : (a a' : Opened) (b b' : List ℕ) → opened_told a b ≡ opened_told a' b' → (a ≡ a') × (b ≡ b')
 open_once a a' b b' e = (
@@ -30,17 +26,17 @@ open_once a a' b b' e = (
 )
 
 abbrev back_fed : Answer Carry → State → Fed
-back_fed (gives l) s = On s l.offset l.have
-back_fed (refuses number place) s = Unfed (record { number = number; place = place })
+back_fed (gives l) s = Ok (s, l.offset, l.have)
+back_fed (refuses number place) s = Err (record { number = number; place = place })
 
 module _ (s : State) (f h b : List ℕ) where
   fed_back : (a : Fed) → back_fed (fed_told s a f h b).left.answer (fed_told s a f h b).left.state ≡ a
-  fed_back (On s' offset have) = refl
-  fed_back (Unfed r) = refl
+  fed_back (Ok (s', offset, have)) = refl
+  fed_back (Err r) = refl
 
   fed_kept : (a : Fed) → ((fed_told s a f h b).left.frag ≡ f) × ((fed_told s a f h b).left.held ≡ h) × ((fed_told s a f h b).buffer ≡ b)
-  fed_kept (On s' offset have) = (refl, refl, refl)
-  fed_kept (Unfed r) = (refl, refl, refl)
+  fed_kept (Ok (s', offset, have)) = (refl, refl, refl)
+  fed_kept (Err r) = (refl, refl, refl)
 
 pub fed_once : (s : State) (a a' : Fed) (f f' h h' b b' : List ℕ) → fed_told s a f h b ≡ fed_told s a' f' h' b' → (a ≡ a') × (f ≡ f') × (h ≡ h') × (b ≡ b')
 fed_once s a a' f f' h h' b b' e =

@@ -5,22 +5,7 @@ ghost use Rattle.std.specs.Prelude.{◌≡◌, ◌≤◌, length};
 ghost use Rattle.parts.specs.Parts.{in_block, place_in, carried, open_part, tellable, feed_part};
 ghost use Rattle.parts.specs.Answers.{opened_told, fed_told};
 
-use forest::{Refusal, State, Taken};
-use numbers::Read;
-
-// The number of fragments, the byte of the file where the links begin, and how many bytes of them are there.
-#[derive(Drop)]
-pub enum Opened {
-    List(u32, usize, usize),
-    Refused(Refusal),
-}
-
-// The state to go on with, the byte of the file that stands at the buffer's front now, and how many bytes stand there.
-#[derive(Drop)]
-pub enum Fed {
-    On(State, usize, usize),
-    Refused(Refusal),
-}
+use forest::{Refusal, State, Why};
 
 // Moves the bytes from `from` up to `len` to the front.
 fn carry(buffer: &mut [u8], from: usize, len: usize)
@@ -30,23 +15,17 @@ fn carry(buffer: &mut [u8], from: usize, len: usize)
     buffer.copy_within(from..len, 0);
 }
 
-// Reads the header from a file's first part, `len` bytes at the buffer's front, and moves what is behind it to the front.
-pub fn open(buffer: &mut [u8], len: usize) -> Opened
+// Reads the header from a file's first part, `len` bytes at the buffer's front, and moves what is behind it to the front. Answers the number of
+// fragments, the byte of the file where the links begin, and how many bytes of them are there.
+pub fn open(buffer: &mut [u8], len: usize) -> Result<(u32, usize, usize), Refusal>
     ensures { opened_told result buffer.new ≡ open_part len buffer.old }
 {
     if buffer.len() < len {
-        return Opened::Refused(Refusal {
-            number: 3,
-            place: 0,
-        });
+        return Err(Refusal::from(Why::Short));
     }
-    match numbers::read_number(&buffer[..len], 0) {
-        Read::Number(n, begins) => {
-            carry(buffer, begins, len);
-            Opened::List(n, begins, len - begins)
-        }
-        Read::Refused(bad) => Opened::Refused(bad),
-    }
+    let (n, begins) = numbers::read_number(&buffer[..len], 0)?;
+    carry(buffer, begins, len);
+    Ok((n, begins, len - begins))
 }
 
 // How many of the first `len` bytes are told.
@@ -74,18 +53,16 @@ fn in_file(bad: Refusal, offset: usize) -> Refusal
 {
     if in_block(bad.number) {
         return Refusal {
-            number: bad.number,
-            place: std::num::wrapping_add_usize(offset, bad.place),
+            place: offset.wrapping_add(bad.place),
+            ..bad
         };
     }
-    Refusal {
-        number: bad.number,
-        place: 0,
-    }
+    Refusal { place: 0, ..bad }
 }
 
 // Takes the whole links of a part, `len` bytes at the buffer's front, of which the first is byte `offset` of the file, and moves what is left
-// to the front. At the file's end all bytes are taken.
+// to the front. At the file's end all bytes are taken. Answers the state to go on with, the byte of the file that stands at the buffer's front
+// now, and how many bytes stand there.
 pub fn feed(
     s: State,
     frag: &mut [u32],
@@ -94,21 +71,18 @@ pub fn feed(
     len: usize,
     offset: usize,
     last: bool,
-) -> Fed
+) -> Result<(State, usize, usize), Refusal>
     ensures { fed_told s result frag.new held.new buffer.new ≡ feed_part s frag.old held.old buffer.old len offset last }
 {
     if buffer.len() < len {
-        return Fed::Refused(Refusal {
-            number: 3,
-            place: 0,
-        });
+        return Err(Refusal::from(Why::Short));
     }
     let end = tell_to(buffer, len, last);
     match forest::take(s, frag, held, &buffer[..end]) {
-        Taken::On(next) => {
+        Ok(next) => {
             carry(buffer, end, len);
-            Fed::On(next, std::num::wrapping_add_usize(offset, end), len - end)
+            Ok((next, offset.wrapping_add(end), len - end))
         }
-        Taken::Refused(bad) => Fed::Refused(in_file(bad, offset)),
+        Err(bad) => Err(in_file(bad, offset)),
     }
 }

@@ -1,5 +1,6 @@
 // The pieces, cuts and sole links of all fragments, for the report of a whole forest.
 ghost use Rattle.std.specs.Prelude.{◌≡◌};
+ghost use Rattle.numbers.specs.Answers.{due};
 ghost use Rattle.state.specs.Test.{is_read};
 ghost use Rattle.state.specs.Call.{head_refusal};
 ghost use Rattle.state.specs.Layout.{forest_in};
@@ -10,6 +11,7 @@ ghost use Rattle.reaches.specs.Judged.{Lows, Pieces};
 use crate::judge::{mark_cuts, mark_soles};
 use crate::sections::{LOW, PAST, PIECE};
 use crate::sink::{fall, sink};
+use numbers::Why;
 use state::{State, clear, is_read};
 use tables::low_of;
 use testing::head;
@@ -63,15 +65,11 @@ fn lay(frag: &mut [u32], n: usize)
     clear(frag, LOW * n, PAST * n);
 }
 
-// The refusal due at the head of a question that is asked in Read. Where it is 0 the answers stand in sections 7 to 9, else the table is as it was found.
-pub fn spread(s: State, frag: &mut [u32], held: &[u32]) -> u32
-    ensures { (result ≡ head_refusal is_read s frag.old held.now) × (frag.new ≡ spread_in s frag.old held.now) }
+// The refusal due at the head of a question that is asked in Read. Where none is the answers stand in sections 7 to 9, else the table is as it was found.
+pub fn spread(s: State, frag: &mut [u32], held: &[u32]) -> Result<(), Why>
+    ensures { (due result ≡ head_refusal is_read s frag.old held.now) × (frag.new ≡ spread_in s frag.old held.now) }
 {
-    let stage = s.stage;
-    let refusal = head(s, is_read(stage), frag, held);
-    if refusal != 0 {
-        return refusal;
-    }
+    head(s, is_read(s.stage), frag, held)?;
     lay(frag, s.n);
-    0
+    Ok(())
 }

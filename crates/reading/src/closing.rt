@@ -49,19 +49,12 @@ fn fail(s: State, frag: &mut [u32]) -> Closed
     Closed::False(s.moved(Stage::Built, s.passes, 0, 0, false))
 }
 
-pub fn close(s: State, frag: &mut [u32], held: &mut [u32]) -> Closed
+pub fn close(s: State, frag: &mut [u32], held: &mut [u32]) -> Result<Closed, Refusal>
     ensures { closed_told s result frag.new held.new ≡ close_in is_reading s frag.old held.old }
 {
-    let stage = s.stage;
-    let refusal = head(s, is_reading(stage), frag, held);
-    if refusal != 0 {
-        return Closed::Refused(Refusal {
-            number: refusal,
-            place: 0,
-        });
-    }
+    head(s, is_reading(s.stage), frag, held)?;
     if !holds(frag, s.n, s.crossed) {
-        return fail(s, frag);
+        return Ok(fail(s, frag));
     }
-    Closed::Read(s.moved(Stage::Read, s.passes, s.entries, s.held, s.crossed))
+    Ok(Closed::Read(s.moved(Stage::Read, s.passes, s.entries, s.held, s.crossed)))
 }

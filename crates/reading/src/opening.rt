@@ -5,21 +5,13 @@ ghost use Rattle.state.specs.Answers.{taken_told};
 
 use numbering::head;
 use numbers::Refusal;
-use state::{Stage, State, Taken, clear, may_open};
+use state::{Stage, State, clear, may_open};
 use tables::{NOTE, STORED};
 
-pub fn open_reading(s: State, frag: &mut [u32], held: &mut [u32]) -> Taken
+pub fn open_reading(s: State, frag: &mut [u32], held: &mut [u32]) -> Result<State, Refusal>
     ensures { taken_told s result frag.new held.new ≡ open_call s frag.old held.old }
 {
-    let stage = s.stage;
-    let refusal = head(s, may_open(stage), frag, held);
-    if refusal != 0 {
-        return Taken::Refused(Refusal {
-            number: refusal,
-            place: 0,
-        });
-    }
-    let n = s.n;
-    clear(frag, NOTE * n, STORED * n);
-    Taken::On(s.moved(Stage::Reading, s.passes, 0, 0, false))
+    head(s, may_open(s.stage), frag, held)?;
+    clear(frag, NOTE * s.n, STORED * s.n);
+    Ok(s.moved(Stage::Reading, s.passes, 0, 0, false))
 }

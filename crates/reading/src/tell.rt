@@ -6,7 +6,6 @@ ghost use Rattle.state.specs.Layout.{forest_in};
 ghost use Rattle.testing.specs.Whole.{Whole, Numbered};
 ghost use Rattle.reading.specs.Tell.{Leaves, Reads, Given, links_of};
 
-use lists::Link;
 use state::wide;
 use tables::{LEVEL, MARK, NOTE, end_at, parent_of, turn_at};
 
@@ -63,14 +62,12 @@ pub(crate) fn tell(frag: &mut [u32], n: usize, entries: u32, crossed: bool, bloc
     let mut crosses = crossed;
     while at < block.len() {
         match lists::link_at(n as u32, told, block, at) {
-            Link::Ends(a, b, next) => {
+            Ok((a, b, next)) => {
                 crosses = read_link(frag, n, crosses, wide(a), wide(b));
                 told += 1;
                 at = next;
             }
-            Link::Refused(bad) => {
-                return crosses;
-            }
+            Err(_) => return crosses,
         }
     }
     crosses

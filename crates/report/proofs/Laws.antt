@@ -1,7 +1,7 @@
 -- What is heard of a read.
 -- Assumes nothing.
-use Rattle.std.specs.Prelude.{ℕ, ◌+◌, ◌<◌, ◌≤◌, Bool, true, false, List, ◌++◌, ◌≡◌, eqb, length, take, drop, Option, None, Some}
-use Rattle.std.specs.Io.KnownBytes.{Appends, Consumes, IsAtEnd, Keeps}
+use Rattle.std.specs.Prelude.{ℕ, ◌+◌, ◌<◌, ◌≤◌, Bool, true, false, List, ◌++◌, ◌≡◌, eqb, length, take, drop, Option, None, Some, ◌-◌, Result, Ok, Err, is_none, unwrap_or}
+use Rattle.std.specs.Io.KnownBytes.{Appends, Consumes, IsAtEnd, Keeps, ReadConsumes}
 use Rattle.std.proofs.Common.{sym, ap, subst, ◌∙◌, arith, lt-ltb, le-ltb, eq-eqb, ne_eqb}
 use Rattle.std.proofs.Math.Decide.{dec_lt}
 use Rattle.std.proofs.Math.Seq.{drop-append_seam, take-add}
@@ -11,6 +11,8 @@ use Rattle.base.specs.Pick.{pick_true, pick_false, pick_all, tests}
 use Rattle.telling.specs.declared.Heard.{Heard}
 use Rattle.telling.specs.declared.Heard.TheVariants.{Bytes, End, Failed, NoFile}
 use Rattle.report.specs.Reading.{Silent, heard_of, Fits, Gives}
+use Rattle.std.specs.Io.{ReadsAtMost}
+use Rattle.std.specs.Result.{result_ok}
 
 module _ (failed : Bool) (room count : ℕ) where
   pub heard_failed : failed ≡ true → Failed ≡ heard_of failed room count
@@ -71,3 +73,16 @@ wrote_more None held' held'' done n text a b = tt
 wrote_more (Some xs) None held'' done n text a b = absurd a
 wrote_more (Some xs) (Some ys) None done n text a b = absurd b
 wrote_more (Some xs) (Some ys) (Some zs) done n text a b = b ∙ ap (λ (l : List ℕ). l ++ take n (drop done text)) a ∙ append_assoc xs (take done text) (take n (drop done text)) ∙ ap (λ (l : List ℕ). xs ++ l) (sym (take-add done n text))
+
+-- What is heard of a read that put its bytes behind the front: those, that none was left, or that it failed and took none.
+pub read_gives : {E : Type 0} (left left' : Option (List ℕ)) (have : ℕ) (b new : List ℕ) (read : Result ℕ E) (told : Option ℕ) (r : Heard) → have < length b → length new ≡ length b - have
+    → ReadsAtMost read new → ReadConsumes left left' read new → told ≡ result_ok read → r ≡ heard_of (is_none told) (length b - have) (unwrap_or told 0)
+    → Gives left left' have r (put_mid have (length b - have) b new)
+unfolding heard_of
+read_gives left left' have b new (Err x) told r h l n k t e = rw (e, t, pick_true) k
+read_gives left left' have b new (Ok count) told r h l n (c, z) t e = rw (e, t, pick_false, le-ltb (length b - have) count (omega arith), pick_false) (elim (dec_lt 0 count) [
+  | yes k ↦ rw (ne_eqb count 0 (λ z. omega (arith, z, k)), pick_false, read_behind have (length b - have) count b new (omega arith) n.0) c
+  | no k ↦
+      let z' : count ≡ 0 = omega (arith, k) in
+      rw (eq-eqb count 0 z', pick_true) (subst (λ (n : ℕ). Consumes left left' (take n new)) z' c, z z' (omega arith))
+])

@@ -1,7 +1,7 @@
 // Prints the report on the file links.sev. What is printed is worked out by `telling`, which is told what each read answered.
 #![tactic(auto)]
 
-ghost use Rattle.std.specs.Prelude.{◌≡◌, length, IfOk, OnErr, IsTrue};
+ghost use Rattle.std.specs.Prelude.{◌≡◌, IfOk, OnOk, OnErr, is_none, unwrap_or};
 ghost use Rattle.std.specs.Io.KnownBytes.{Appends};
 ghost use Rattle.report.specs.Reading.{Silent, heard_of, Hears, Gives};
 
@@ -41,58 +41,57 @@ fn unopened(error: io::Error) -> Heard
     Heard::Failed
 }
 
-// What is heard of a read that failed, or put so many bytes into the buffer: none at the end of the file, and never more than there is room for.
-#[tactic(auto, using(crate::proofs::Laws::heard_failed, crate::proofs::Laws::heard_more, crate::proofs::Laws::heard_end, crate::proofs::Laws::heard_bytes))]
-fn heard(failed: bool, room: usize, count: usize) -> Heard
-    ensures { result ≡ heard_of failed room count }
-{
-    if failed {
-        return Heard::Failed;
-    }
-    if room < count {
-        return Heard::Failed;
-    }
-    if count == 0 {
-        return Heard::End;
-    }
-    Heard::Bytes(count)
+// What is heard of a read, and the error where one says why.
+#[derive(Clone, Copy)]
+struct Got {
+    heard: Heard,
+    error: Option<io::Error>,
 }
 
-// Reads behind the bytes at the buffer's front, which stay as they are. The last error is kept.
-fn hear<F: Read>(
-    file: &mut io::Result<F>,
-    buffer: &mut [u8],
-    have: usize,
-    last: &mut io::Error,
-) -> Heard
-    ensures hears { Hears have buffer.old result buffer.new }
-    ensures gives { IfOk file.old (λ f. IfOk file.new (λ f'. Gives (F.remaining f) (F.remaining f') have result buffer.new)) }
-    ensures silent { OnErr file.old (Silent result) }
+// What is heard of a read that failed, or put so many bytes into the buffer: none at the end of the file, and never more than there is room for.
+#[tactic(auto, using(base::specs::Pick::tests), unfolding(crate::specs::Reading::heard_of))]
+fn heard(read: Option<usize>, room: usize) -> Heard
+    ensures { result ≡ heard_of (is_none read) room (unwrap_or read 0) }
+{
+    match read {
+        None => Heard::Failed,
+        Some(count) if room < count => Heard::Failed,
+        Some(0) => Heard::End,
+        Some(count) => Heard::Bytes(count),
+    }
+}
+
+// Reads behind the bytes at the buffer's front, which stay as they are.
+fn hear<F: Read>(file: &mut io::Result<F>, buffer: &mut [u8], have: usize) -> Got
+    ensures hears { Hears have buffer.old result.heard buffer.new }
+    ensures gives { IfOk file.old (λ f. IfOk file.new (λ f'. Gives (F.remaining f) (F.remaining f') have result.heard buffer.new)) }
+    ensures silent { OnErr file.old (Silent result.heard) }
 {
     match file {
-        Err(error) => {
-            *last = *error;
-            unopened(*error)
-        }
-        Ok(file) => hear_file(file, buffer, have, last),
+        Ok(file) => hear_file(file, buffer, have),
+        Err(error) => Got {
+            heard: unopened(*error),
+            error: Some(*error),
+        },
     }
 }
 
 // The same of a file that is open.
-fn hear_file<F: Read>(file: &mut F, buffer: &mut [u8], have: usize, last: &mut io::Error) -> Heard
-    ensures hears { Hears have buffer.old result buffer.new }
-    ensures gives { Gives (F.remaining file.old) (F.remaining file.new) have result buffer.new }
+fn hear_file<F: Read>(file: &mut F, buffer: &mut [u8], have: usize) -> Got
+    ensures hears { Hears have buffer.old result.heard buffer.new }
+    ensures gives { Gives (F.remaining file.old) (F.remaining file.new) have result.heard buffer.new }
 {
     if have >= buffer.len() {
-        return Heard::Failed;
+        return Got {
+            heard: Heard::Failed,
+            error: None,
+        };
     }
     let room = buffer.len() - have;
-    match file.read(&mut buffer[have..]) {
-        Ok(count) => heard(false, room, count),
-        Err(error) => {
-            *last = error;
-            heard(true, room, 0)
-        }
+    let answer = file.read(&mut buffer[have..]);
+    Got {
+        heard: heard(answer.ok(), room),
+        error: answer.err(),
     }
 }
 
@@ -102,65 +101,44 @@ fn reopened<R: Files>(rt: &R, file: io::Result<R::File>) -> io::Result<R::File> 
     open_list(rt)
 }
 
-// Tells the file until there is something to print.
+// Tells the file until there is something to print, or an error to say.
 fn tell_list<R: Files>(
     rt: &R,
     frag: &mut [u32],
     held: &mut [u32],
     buffer: &mut [u8],
     text: &mut [u8],
-    last: &mut io::Error,
-) -> Next {
+) -> (Next, Option<io::Error>) {
     let mut file = open_list(rt);
     let mut t = telling::begin(ROOM);
-    let mut turns: u64 = TURNS;
-    let mut end = Next::Failed;
-    while turns > 0 {
-        let got = hear(&mut file, buffer, t.have, last);
-        end = telling::tell(t, frag, held, buffer, text, got);
-        match end {
-            Next::More(more) => {
-                t = more;
-                turns -= 1;
-            }
+    for _ in 0..TURNS {
+        let got = hear(&mut file, buffer, t.have);
+        match telling::tell(t, frag, held, buffer, text, got.heard) {
+            Next::More(more) => t = more,
             Next::Again(again) => {
                 file = reopened(rt, file);
                 t = again;
-                turns -= 1;
             }
-            Next::Report(_, _) => {
-                turns = 0;
-            }
-            Next::Refused(_, _) => {
-                turns = 0;
-            }
-            Next::NoFile(_) => {
-                turns = 0;
-            }
-            Next::Failed => {
-                turns = 0;
-            }
+            end => return (end, got.error),
         }
     }
-    end
+    (Next::More(t), None)
 }
 
-// Writes all of the text, or stops at the first write that takes nothing or fails: then it answers false.
-fn write_all<W: Write>(out: &mut W, text: &[u8], last: &mut io::Error) -> bool
-    ensures { IsTrue result → Appends (W.contents out.old) (W.contents out.new) text.now }
+// Writes all of the text, or stops at the first write that takes nothing, where no error says why, or fails: one that was interrupted too, which the
+// `write_all` of std would try again.
+fn write_all<W: Write>(out: &mut W, text: &[u8]) -> Result<(), Option<io::Error>>
+    ensures { OnOk result (Appends (W.contents out.old) (W.contents out.new) text.now) }
 {
     let mut done = 0;
     while done < text.len() {
         match out.write(&text[done..]) {
-            Ok(0) => return false,
+            Ok(0) => return Err(None),
             Ok(n) => done += n,
-            Err(error) => {
-                *last = error;
-                return false;
-            }
+            Err(error) => return Err(Some(error)),
         }
     }
-    true
+    Ok(())
 }
 
 // The system's text of an error, without its number.
@@ -178,46 +156,31 @@ fn fail<R: Eprint>(rt: &R, what: &str, error: io::Error) {
     let written = line.position() as usize;
     let bytes = line.into_inner();
     let size = written.min(bytes.len());
-    match str::from_utf8(&bytes[..size]) {
-        Ok(text) => {
-            let words = reason(text);
-            let _ = eprintln!(rt; "{what}: {words}");
-        }
-        Err(_) => {}
+    if let Ok(text) = str::from_utf8(&bytes[..size]) {
+        let words = reason(text);
+        let _ = eprintln!(rt; "{what}: {words}");
     }
 }
 
-fn write_text<R: Eprint, W: Write>(
-    rt: &R,
-    out: &mut W,
-    text: &[u8],
-    size: usize,
-    mut last: io::Error,
-) {
-    if size <= text.len() {
-        if !write_all(out, &text[..size], &mut last) {
-            fail(rt, "report: standard output", last);
-        }
-    }
-}
-
-fn print<R: Print + Eprint>(rt: &R, next: Next, text: &[u8], last: io::Error) {
+// Where a write takes nothing, `last` is said.
+fn write_text<R: Print + Eprint>(rt: &R, text: &[u8], size: usize, last: io::Error) {
     let mut out = io::writer(rt);
+    if size <= text.len()
+        && let Err(error) = write_all(&mut out, &text[..size])
+    {
+        fail(rt, "report: standard output", error.unwrap_or(last));
+    }
+}
+
+fn print<R: Print + Eprint>(rt: &R, next: Next, text: &[u8], error: Option<io::Error>) {
+    // Where nothing failed, the system's number of no error.
+    let last = error.unwrap_or(io::Error::from_raw_os_error(0));
     match next {
-        Next::More(_) => {}
-        Next::Again(_) => {}
-        Next::Report(_, size) => {
-            write_text(rt, &mut out, text, size, last);
+        Next::More(_) | Next::Again(_) => {}
+        Next::Report(_, size) | Next::Refused(_, size) | Next::NoFile(size) => {
+            write_text(rt, text, size, last);
         }
-        Next::Refused(_, size) => {
-            write_text(rt, &mut out, text, size, last);
-        }
-        Next::NoFile(size) => {
-            write_text(rt, &mut out, text, size, last);
-        }
-        Next::Failed => {
-            fail(rt, "report: links.sev", last);
-        }
+        Next::Failed => fail(rt, "report: links.sev", last),
     }
 }
 
@@ -226,7 +189,6 @@ fn main(rt: HostRuntime) {
     let mut held = [0u32; HELD_WORDS];
     let mut buffer = [0u8; PART];
     let mut text = [0u8; TEXT];
-    let mut last = io::Error::from_raw_os_error(0);
-    let next = tell_list(&rt, &mut frag, &mut held, &mut buffer, &mut text, &mut last);
-    print(&rt, next, &text, last);
+    let (next, error) = tell_list(&rt, &mut frag, &mut held, &mut buffer, &mut text);
+    print(&rt, next, &text, error);
 }

@@ -7,11 +7,10 @@ use Rattle.state.specs.Layout.{tables_in, frag_of, held_of}
 use Rattle.state.specs.Test.{sound}
 use Rattle.state.specs.Call.{bounds_refusal}
 use Rattle.state.specs.Start.{started, start_call}
-use Rattle.state.specs.Answers.{begun_told}
+use Rattle.state.specs.Answers.{Started, begun_told}
 use Rattle.state.proofs.Laws.Bounds.{bounds_known}
 use Rattle.state.proofs.Laws.Sound.{sound_laid}
 use Rattle.state.proofs.Laws.Start.{fresh_agrees, fresh_laid, told_once}
-use Rattle.state.specs.declared.Started.{Started}
 use Rattle.state.specs.declared.Stage.TheVariants.{Building}
 
 -- 'What an accepted call leaves .. passes this test.'

@@ -1,4 +1,5 @@
 pub mod Stages
+pub mod StageNumber
 pub mod Layout
 pub mod Test
 pub mod Call

@@ -2,25 +2,26 @@
 #![tactic(auto)]
 
 ghost use Rattle.std.specs.Prelude.{◌≡◌};
+ghost use Rattle.numbers.specs.Answers.{due};
 ghost use Rattle.state.specs.Answers.{begun_told};
 ghost use Rattle.state.specs.Call.{bounds_refusal};
 ghost use Rattle.state.specs.Start.{start_call};
 ghost use Rattle.state.specs.Layout.{begun as beginning, moved_on};
 
-use numbers::Refusal;
+use numbers::{Refusal, Why};
 
 mod stages;
 mod words;
 
-pub use stages::{is_building, is_built, is_read, is_reading, may_open};
+pub use stages::{UnknownStage, is_building, is_built, is_read, is_reading, may_open};
 pub use words::{clear, wide, zeros};
 
 #[derive(Clone, Copy)]
 pub enum Stage {
-    Building,
-    Built,
-    Reading,
-    Read,
+    Building = 0,
+    Built = 1,
+    Reading = 2,
+    Read = 3,
 }
 
 #[derive(Clone, Copy)]
@@ -40,68 +41,38 @@ pub struct State {
     pub crossed: bool,
 }
 
-// The state to begin with, or the refusal.
-#[derive(Drop)]
-pub enum Started {
-    Ready(State),
-    Refused(Refusal),
-}
-
-// The state to go on with, or the refusal: then the state is as it was.
-#[derive(Drop)]
-pub enum Taken {
-    On(State),
-    Refused(Refusal),
-}
-
 // How a pass ended, and the state to go on with. False is refusal 9, the one that changes something.
-#[derive(Drop)]
+#[derive(Clone, Copy)]
 pub enum Closed {
     More(State),
     Done(State),
     Read(State),
     False(State),
-    Refused(Refusal),
 }
 
-// The number asked for.
-#[derive(Drop)]
-pub enum Asked {
-    Number(usize),
-    Refused(Refusal),
-}
-
-// Yes or no.
-#[derive(Drop)]
-pub enum Judged {
-    Yes,
-    No,
-    Refused(Refusal),
-}
-
-// Which of the refusals 1, 2 and 3 is due; 0 where none is.
-pub fn bounds(n: usize, k: usize, frags: usize, helds: usize) -> u32
-    ensures { result ≡ bounds_refusal n k frags helds }
+// Which of the refusals 1, 2 and 3 is due, or none.
+pub fn bounds(n: usize, k: usize, frags: usize, helds: usize) -> Result<(), Why>
+    ensures { due result ≡ bounds_refusal n k frags helds }
 {
     if n == 0 {
-        return 1;
+        return Err(Why::Fragments);
     }
     if State::FRAGMENTS < n {
-        return 1;
+        return Err(Why::Fragments);
     }
     if k == 0 {
-        return 2;
+        return Err(Why::Room);
     }
     if State::ROOM < k {
-        return 2;
+        return Err(Why::Room);
     }
     if frags < State::WORDS * n {
-        return 3;
+        return Err(Why::Short);
     }
     if helds < k * n {
-        return 3;
+        return Err(Why::Short);
     }
-    0
+    Ok(())
 }
 
 impl State {
@@ -119,9 +90,9 @@ impl State {
         ensures { result ≡ beginning n k stage }
     {
         State {
-            n: n,
-            k: k,
-            stage: stage,
+            n,
+            k,
+            stage,
             passes: 0,
             entries: 0,
             held: 0,
@@ -141,29 +112,22 @@ impl State {
         ensures { result ≡ moved_on self stage passes entries held crossed }
     {
         State {
-            n: self.n,
-            k: self.k,
-            stage: stage,
-            passes: passes,
-            entries: entries,
-            held: held,
-            crossed: crossed,
+            stage,
+            passes,
+            entries,
+            held,
+            crossed,
+            ..self
         }
     }
 
     // Building with nothing placed, in tables that are cleared as far as the state reaches.
-    pub fn start(n: usize, k: usize, frag: &mut [u32], held: &mut [u32]) -> Started
+    pub fn start(n: usize, k: usize, frag: &mut [u32], held: &mut [u32]) -> Result<State, Refusal>
         ensures { begun_told result frag.new held.new ≡ start_call n k frag.old held.old }
     {
-        let refusal = bounds(n, k, frag.len(), held.len());
-        if refusal != 0 {
-            return Started::Refused(Refusal {
-                number: refusal,
-                place: 0,
-            });
-        }
+        bounds(n, k, frag.len(), held.len())?;
         clear(frag, 0, State::WORDS * n);
         clear(held, 0, k * n);
-        Started::Ready(State::begun(n, k, Stage::Building))
+        Ok(State::begun(n, k, Stage::Building))
     }
 }

@@ -1,3 +1,4 @@
 pub mod Tell
+pub mod StepNumber
 pub mod Steps
 pub mod Unique

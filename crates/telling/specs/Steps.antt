@@ -1,6 +1,6 @@
 -- The steps of telling: what each answer of a call below leads to.
 -- Assumes nothing.
-use Rattle.std.specs.Prelude.{ℕ, ◌+◌, ◌<◌, ◌≤◌, Bool, not, List, ◌≡◌, T, eqb, length}
+use Rattle.std.specs.Prelude.{Result, ℕ, ◌+◌, ◌<◌, ◌≤◌, Bool, not, List, ◌≡◌, T, eqb, length}
 use Rattle.std.proofs.Math.Bool.{true, false}
 use Rattle.std.proofs.Math.Path.{refl, sym, ap}
 use Rattle.std.proofs.Common.{◌∙◌, subst}
@@ -9,7 +9,7 @@ use Rattle.base.specs.Pick.{pick_true, pick_false, tests}
 use Rattle.base.specs.Answer.{gives, refuses}
 use Rattle.numbers.specs.Number.{Wrote, groups_most}
 use Rattle.numbers.specs.Answers.{told_end, wrote}
-use Rattle.numbers.specs.declared.Written.{Written}
+use Rattle.numbers.specs.declared.Why.{Why}
 use Rattle.state.specs.Layout.{begun}
 use Rattle.state.specs.Call.{Begun, Left, refused}
 use Rattle.state.specs.Answers.{told}
@@ -31,7 +31,7 @@ false_true : false ≡ true → ⊥
 false_true e = subst (λ (b : Bool). T (not b)) e tt
 
 -- Lines.
-module _ (text text' : List ℕ) (r : Written) (size : ℕ) (z : size ≡ size_of (told_end r)) where
+module _ (text text' : List ℕ) (r : Result ℕ Why) (size : ℕ) (z : size ≡ size_of (told_end r)) where
   pub refuse_said : (number place : ℕ) → wrote r text' ≡ store text (refusal_line number place) → record { does = refuses_at number place size; text = text' } ≡ refusing number place text
   unfolding refusing
   refuse_said number place e = rw z (ap (λ (w : Wrote). record { does = refuses_at number place (size_of w.answer); text = w.buffer }) e)

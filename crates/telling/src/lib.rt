@@ -11,9 +11,11 @@ ghost use Rattle.lines.specs.Report.{report_call};
 ghost use Rattle.telling.specs.declared.Step.TheVariants.{Head};
 ghost use Rattle.telling.specs.Tell.{size_of, is_first, is_links, is_over, was_read, is_end, count_in, unheard, said, turned, goes, next_does, rereads, telling_of, beginning, refusing, reporting, opening, ending, feeding, entering, unfinished, entered, heading, parted, given, tell_call};
 
-use forest::{Closed, Refusal, Stage, Started, State, Taken};
-use numbers::Written;
-use parts::{Fed, Opened};
+use forest::{Closed, Refusal, Stage, State, Why};
+
+mod steps;
+
+pub use steps::UnknownStep;
 
 // A link has at most so many bytes.
 const LINK: usize = 6;
@@ -21,10 +23,10 @@ const LINK: usize = 6;
 // Where the work stands: nothing was read; a pass begins, and the head of the file is to come; in the links; over.
 #[derive(Clone, Copy)]
 pub enum Step {
-    First,
-    Head,
-    Links,
-    Over,
+    First = 0,
+    Head = 1,
+    Links = 2,
+    Over = 3,
 }
 
 #[derive(Clone, Copy)]
@@ -70,13 +72,10 @@ pub fn begin(k: usize) -> Telling
     }
 }
 
-fn size_of(written: Written) -> usize
+fn size_of(written: Result<usize, Why>) -> usize
     ensures { result ≡ size_of (told_end written) }
 {
-    match written {
-        Written::End(size) => size,
-        Written::Refused(_) => 0,
-    }
+    written.unwrap_or(0)
 }
 
 fn refuse(number: u32, place: usize, text: &mut [u8]) -> Next
@@ -102,8 +101,8 @@ fn report(s: State, frag: &mut [u32], held: &[u32], text: &mut [u8]) -> Next
     ensures { turned result frag.new held.now text.new ≡ reporting s frag.old held.now (report_call s frag.old held.now text.old) }
 {
     match lines::report(s, frag, held, text) {
-        Written::End(size) => Next::Report(s, size),
-        Written::Refused(bad) => refuse(bad.number, bad.place, text),
+        Ok(size) => Next::Report(s, size),
+        Err(why) => refuse(why.number(), 0, text),
     }
 }
 
@@ -123,8 +122,8 @@ fn open_again(s: State, frag: &mut [u32], held: &mut [u32], text: &mut [u8]) -> 
     ensures { turned result frag.new held.new text.new ≡ opening (open_call s frag.old held.old) text.old }
 {
     match forest::open_reading(s, frag, held) {
-        Taken::On(next) => again(next),
-        Taken::Refused(bad) => refuse(bad.number, bad.place, text),
+        Ok(next) => again(next),
+        Err(bad) => refuse(bad.number, bad.place, text),
     }
 }
 
@@ -133,11 +132,11 @@ fn end_pass(s: State, frag: &mut [u32], held: &mut [u32], text: &mut [u8]) -> Ne
     ensures { turned result frag.new held.new text.new ≡ ending (close_call s frag.old held.old) text.old }
 {
     match forest::close(s, frag, held) {
-        Closed::More(next) => again(next),
-        Closed::Done(next) => open_again(next, frag, held, text),
-        Closed::Read(next) => report(next, frag, held, text),
-        Closed::False(_) => refuse(9, 0, text),
-        Closed::Refused(bad) => refuse(bad.number, bad.place, text),
+        Ok(Closed::More(next)) => again(next),
+        Ok(Closed::Done(next)) => open_again(next, frag, held, text),
+        Ok(Closed::Read(next)) => report(next, frag, held, text),
+        Ok(Closed::False(_)) => refuse(9, 0, text),
+        Err(bad) => refuse(bad.number, bad.place, text),
     }
 }
 
@@ -153,7 +152,7 @@ fn feed(
     ensures { goes result frag.new held.new buffer.new text.new ≡ feeding last text.old (feed_part t.state frag.old held.old buffer.old t.have t.offset last) }
 {
     match parts::feed(t.state, frag, held, buffer, t.have, t.offset, last) {
-        Fed::On(next, at, left) => {
+        Ok((next, at, left)) => {
             if last {
                 return end_pass(next, frag, held, text);
             }
@@ -164,7 +163,7 @@ fn feed(
                 have: left,
             })
         }
-        Fed::Refused(bad) => refuse(bad.number, bad.place, text),
+        Err(bad) => refuse(bad.number, bad.place, text),
     }
 }
 
@@ -194,7 +193,7 @@ fn is_other(n: usize, size: usize) -> bool
 
 // The state that the links are told to, for the number of fragments that the head has: another one than before is refused, since the file is not
 // the one that the forest is built for.
-fn enter(t: Telling, n: usize, frag: &mut [u32], held: &mut [u32]) -> Started
+fn enter(t: Telling, n: usize, frag: &mut [u32], held: &mut [u32]) -> Result<State, Refusal>
     ensures { begun_told result frag.new held.new ≡ entering t.state t.step n frag.old held.old }
 {
     let s = t.state;
@@ -203,12 +202,9 @@ fn enter(t: Telling, n: usize, frag: &mut [u32], held: &mut [u32]) -> Started
         return State::start(n, s.k, frag, held);
     }
     if is_other(n, s.n) {
-        return Started::Refused(Refusal {
-            number: 9,
-            place: 0,
-        });
+        return Err(Refusal::from(Why::Differs));
     }
-    Started::Ready(s)
+    Ok(s)
 }
 
 // Whether more bytes may mend what was refused: the bytes end inside the head, and the file has not ended.
@@ -232,7 +228,7 @@ fn enter_links(
     ensures { goes result frag.new held.new buffer.new text.new ≡ entered t.offset t.have last text.old buffer.old (entering t.state t.step n frag.old held.old) }
 {
     match enter(t, n, frag, held) {
-        Started::Ready(s) => {
+        Ok(s) => {
             let links = Telling {
                 state: s,
                 step: Step::Links,
@@ -240,7 +236,7 @@ fn enter_links(
             };
             feed(links, frag, held, buffer, text, last)
         }
-        Started::Refused(bad) => refuse(bad.number, bad.place, text),
+        Err(bad) => refuse(bad.number, bad.place, text),
     }
 }
 
@@ -256,7 +252,7 @@ fn head(
     ensures { goes result frag.new held.new buffer.new text.new ≡ heading t frag.old held.old text.old last (open_part t.have buffer.old) }
 {
     match parts::open(buffer, t.have) {
-        Opened::List(n, begins, have) => {
+        Ok((n, begins, have)) => {
             let links = Telling {
                 offset: begins,
                 have,
@@ -264,7 +260,7 @@ fn head(
             };
             enter_links(links, n as usize, frag, held, buffer, text, last)
         }
-        Opened::Refused(bad) => {
+        Err(bad) => {
             if is_unfinished(bad.number, last) {
                 return Next::More(t);
             }

@@ -1,23 +1,22 @@
 // The refusals that every call on a state tests first: 1, 2, 3, 6 and 11, this one but for the held links. Outside Building no link is held, so there it is whole.
 ghost use Rattle.std.specs.Prelude.{◌≡◌};
+ghost use Rattle.numbers.specs.Answers.{due};
 ghost use Rattle.testing.specs.Test.{head_but_links};
 
 use crate::test::but_links;
+use numbers::Why;
 use state::{State, bounds};
 
-// The refusal that is due, 0 where none is; `allowed` says whether the stage allows the call.
-pub fn head(s: State, allowed: bool, frag: &[u32], held: &[u32]) -> u32
-    ensures { result ≡ head_but_links allowed s frag.now held.now }
+// The refusal that is due; `allowed` says whether the stage allows the call.
+pub fn head(s: State, allowed: bool, frag: &[u32], held: &[u32]) -> Result<(), Why>
+    ensures { due result ≡ head_but_links allowed s frag.now held.now }
 {
-    let refusal = bounds(s.n, s.k, frag.len(), held.len());
-    if refusal != 0 {
-        return refusal;
-    }
+    bounds(s.n, s.k, frag.len(), held.len())?;
     if !allowed {
-        return 6;
+        return Err(Why::Stage);
     }
     if !but_links(s, frag, held) {
-        return 11;
+        return Err(Why::Tables);
     }
-    0
+    Ok(())
 }

@@ -5,41 +5,28 @@ ghost use Rattle.std.specs.Prelude.{◌≡◌, ◌++◌, length};
 ghost use Rattle.numbers.specs.Number.{written_number, put};
 ghost use Rattle.numbers.specs.Answers.{told_end, wrote};
 ghost use Rattle.writing.specs.Write.{write_list};
-ghost use Rattle.writing.specs.Steps.{answer_or, list_size, Fitting, written_words, Stored, Room};
+ghost use Rattle.writing.specs.Steps.{list_size, Fitting, written_words, Stored, Room};
 
 use lists::{bad_ends, bad_size};
-use numbers::{Written, not_written, width};
-
-// Where the writer ended, or `other` where it refused.
-fn end_or(written: Written, other: usize) -> usize
-    ensures { result ≡ answer_or (told_end written) other }
-{
-    match written {
-        Written::End(end) => end,
-        Written::Refused(_) => other,
-    }
-}
+use numbers::{Why, width};
 
 // How many bytes the list takes, or what is wrong with it.
-fn list_size(n: u32, words: &[u32]) -> Written
+fn list_size(n: u32, words: &[u32]) -> Result<usize, Why>
     ensures { told_end result ≡ list_size n words.now }
 {
     if bad_size(n) {
-        return not_written(1);
+        return Err(Why::Fragments);
     }
     let mut size = width(n);
     let (pairs, rest) = words.as_chunks::<2>();
     for &[a, b] in pairs {
-        let bad = bad_ends(n, a, b);
-        if bad != 0 {
-            return not_written(bad);
-        }
+        bad_ends(n, a, b)?;
         size += width(a) + width(b);
     }
     if !rest.is_empty() {
-        return not_written(8);
+        return Err(Why::Unfinished);
     }
-    Written::End(size)
+    Ok(size)
 }
 
 // Writes a number that there is room for. Returns the position after it.
@@ -47,8 +34,7 @@ fn put_number(value: u32, buffer: &mut [u8], at: usize) -> usize
     requires { Fitting value at (length buffer.old) }
     ensures { Stored value at buffer.old result buffer.new }
 {
-    let written = numbers::write_number(value, buffer, at);
-    end_or(written, at)
+    numbers::write_number(value, buffer, at).unwrap()
 }
 
 // Writes the list that there is room for.
@@ -63,17 +49,13 @@ fn put_list(n: u32, words: &[u32], buffer: &mut [u8])
 }
 
 // Writes a list of n fragments, its links as words, two each, to the front of `buffer`.
-pub fn write_list(n: u32, words: &[u32], buffer: &mut [u8]) -> Written
+pub fn write_list(n: u32, words: &[u32], buffer: &mut [u8]) -> Result<usize, Why>
     ensures { wrote result buffer.new ≡ write_list n words.now buffer.old }
 {
-    match list_size(n, words) {
-        Written::End(size) => {
-            if buffer.len() < size {
-                return not_written(3);
-            }
-            put_list(n, words, buffer);
-            Written::End(size)
-        }
-        Written::Refused(bad) => Written::Refused(bad),
+    let size = list_size(n, words)?;
+    if buffer.len() < size {
+        return Err(Why::Short);
     }
+    put_list(n, words, buffer);
+    Ok(size)
 }

@@ -1,7 +1,7 @@
 -- Following a table of parents, writing it down with its levels, and the answers of adopt.
 -- Assumes nothing.
 use Prim.Native.Nat.{ℕ, suc, ◌+◌, ◌-◌, ◌*◌, ◌≤◌, ◌<◌}
-use Rattle.std.specs.Prelude.{◌≡◌, true, false, List, T, eqb, length, set, take, drop, replicate}
+use Rattle.std.specs.Prelude.{◌≡◌, true, false, List, T, eqb, length, set, take, drop, replicate, Ok, Err}
 use Rattle.std.proofs.Math.Path.{refl, sym, ap}
 use Rattle.std.proofs.Common.{◌∙◌, subst, arith, add-one, ltb→lt, length-set, length-take, length-drop, get_or-set_same, get_or-set_other, get_or-take, get_or-drop, drop-drop, drop-set-lt, ext_get_or, length-take-le}
 use Rattle.std.proofs.Math.Decide.{ℕ_discrete, dec_le}
@@ -31,7 +31,6 @@ use Rattle.state.proofs.Laws.Behind.{plain_rest}
 use Rattle.state.proofs.Laws.Lay.{frag_laid, held_laid}
 use Rattle.state.specs.declared.State.{State}
 use Rattle.state.specs.declared.Stage.TheVariants.{Built}
-use Rattle.state.specs.declared.Started.TheVariants.{Ready, Refused}
 use Rattle.adopting.specs.Adopt.{below, Inside, Leads, Verdict, Rooted, Placed}
 
 -- Parents that are fragments; w is v's parent.
@@ -217,10 +216,10 @@ module _ (n k : ℕ) (ps f f₁ f₂ h h₂ : List ℕ) (b : Bounds n k (length 
 
 -- The answers of adopt.
 module _ (n k : ℕ) (ps f h : List ℕ) (r : ℕ) (e : r ≡ adopt_refusal n k ps (length f) (length h)) where
-  pub adopt_refused : (r ≡ 0 → ⊥) → begun_told (Refused (record { number = r; place = 0 })) f h ≡ adopt_call n k ps f h
+  pub adopt_refused : (r ≡ 0 → ⊥) → begun_told (Err (record { number = r; place = 0 })) f h ≡ adopt_call n k ps f h
   unfolding adopt_call
   adopt_refused d = rw (← e) (simp tests)
 
-  pub adopt_ready : r ≡ 0 → (x : State) → x ≡ adopted_state n k → (f' h' : List ℕ) → f' ≡ frag_of Built n (adopted n ps) f → h' ≡ held_of n k (adopted n ps) h → begun_told (Ready x) f' h' ≡ adopt_call n k ps f h
+  pub adopt_ready : r ≡ 0 → (x : State) → x ≡ adopted_state n k → (f' h' : List ℕ) → f' ≡ frag_of Built n (adopted n ps) f → h' ≡ held_of n k (adopted n ps) h → begun_told (Ok x) f' h' ≡ adopt_call n k ps f h
   unfolding adopt_call
   adopt_ready z x ex f' h' p q = rw (ex, ← e, p, q) (simp tests)

@@ -1,8 +1,9 @@
 -- What the head of a question gives, and the answers of the questions.
 -- Assumes nothing.
-use Rattle.std.specs.Prelude.{ℕ, ◌≤◌, ◌<◌, ◌≡◌, Bool, List}
+use Rattle.std.specs.Prelude.{ℕ, ◌≤◌, ◌<◌, max, ◌≡◌, Bool, false, List}
 use Rattle.std.proofs.Math.Path.{refl}
-use Rattle.std.proofs.Common.{sym, ◌∙◌}
+use Rattle.std.proofs.Common.{sym, ◌∙◌, arith}
+use Rattle.std.proofs.Math.Decide.{ℕ_discrete, dec_lt}
 use Rattle.base.specs.Pick.{tests}
 use Rattle.base.specs.Truth.{true_T, or_r}
 use Rattle.base.specs.Answer.{gives, refuses}
@@ -14,10 +15,12 @@ use Rattle.state.specs.Ask.{ask_one, ask_two}
 use Rattle.state.specs.Test.{is_reading, is_read}
 use Rattle.state.specs.declared.State.{State}
 use Rattle.state.specs.declared.Stage.{Stage}
+use Rattle.state.specs.declared.Stage.TheVariants.{Building}
 use Rattle.testing.specs.Test.{head_but_links}
 use Rattle.testing.specs.Whole.{Numbered}
-use Rattle.testing.specs.Laws.Head.{head_known, head_passed}
+use Rattle.testing.specs.Laws.Head.{head_known, head_is, head_passed}
 use Rattle.testing.specs.Laws.Whole.{passed_numbered}
+use Rattle.asking.specs.Asked.{ask_refusal}
 
 -- The questions are asked of the fragment table alone.
 module _ (s : State) (f h : List ℕ) where
@@ -86,3 +89,67 @@ module _ {A : Type 0} (allowed : Stage → Bool) (s : State) (f h : List ℕ) (r
         pub two_answer : (a ≡ b → ⊥) → gives x ≡ ask_two allowed s f h a b x
         unfolding ask_two
         two_answer q = rw (← e) (simp tests)
+
+-- Which refusal is due at a question about v: r is the head's.
+module _ (b : Bool) (s : State) (f h : List ℕ) (v : ℕ) where
+  module _ (r : ℕ) (e : r ≡ head_but_links b s f h) where
+    pub due_head : (r ≡ 0 → ⊥) → r ≡ ask_refusal b s f h v
+    unfolding ask_refusal
+    due_head d = rw (← e) (simp tests)
+
+  module _ (z : head_but_links b s f h ≡ 0) where
+    pub due_far : s.n ≤ v → 4 ≡ ask_refusal b s f h v
+    unfolding ask_refusal
+    due_far l = rw z (simp tests)
+
+    pub due_none : v < s.n → 0 ≡ ask_refusal b s f h v
+    unfolding ask_refusal
+    due_none l = rw z (simp tests)
+
+  -- What is known where none is due.
+  pub ask_passed : ask_refusal b s f h v ≡ 0 → (head_but_links b s f h ≡ 0) × (v < s.n)
+  ask_passed e = elim (ℕ_discrete (head_but_links b s f h) 0) [
+    | no d ↦ absurd (d (due_head _ refl d ∙ e))
+    | yes z ↦ elim (dec_lt v s.n) [
+      | no d ↦ absurd (omega (arith, due_far z (omega arith) ∙ e))
+      | yes l ↦ (z, l)
+    ]
+  ]
+
+-- A question that is allowed in some stages, but never in Building: what it answers, d being the refusal that is due.
+module _ (allowed : Stage → Bool) (never : allowed Building ≡ false) (s : State) (f h : List ℕ) (b : Bool) (eb : b ≡ allowed s.stage) where
+  same_head : head_but_links b s f h ≡ head_refusal allowed s f h
+  same_head = head_is allowed never s f h _ b eb refl
+
+  module _ {A : Type 0} (x : A) (v d : ℕ) (e : d ≡ ask_refusal b s f h v) where
+    pub ask_refused : (d ≡ 0 → ⊥) → refuses d 0 ≡ ask_one allowed s f h v x
+    ask_refused k = elim (ℕ_discrete (head_but_links b s f h) 0) [
+      | no q ↦ rw (e, ← due_head b s f h v _ refl q) (one_refused allowed s f h _ same_head x v q)
+      | yes z ↦ elim (dec_lt v s.n) [
+        | no l ↦ rw (e, ← due_far b s f h v z (omega arith)) (one_far allowed s f h _ same_head x v z (omega arith))
+        | yes l ↦ absurd (k (e ∙ sym (due_none b s f h v z l)))
+      ]
+    ]
+
+    pub ask_answer : d ≡ 0 → gives x ≡ ask_one allowed s f h v x
+    ask_answer z = let p = ask_passed b s f h v (sym e ∙ z) in one_answer allowed s f h _ same_head x v p.0 p.1
+
+  module _ {A : Type 0} (x : A) (v w m : ℕ) (em : m ≡ max v w) (d : ℕ) (e : d ≡ ask_refusal b s f h m) where
+    pub both_refused : (d ≡ 0 → ⊥) → refuses d 0 ≡ ask_two allowed s f h v w x
+    both_refused k = elim (ℕ_discrete (head_but_links b s f h) 0) [
+      | no q ↦ rw (e, ← due_head b s f h m _ refl q) (two_refused allowed s f h _ same_head x v w q)
+      | yes z ↦ elim (dec_lt v s.n) [
+        | no l ↦ rw (e, ← due_far b s f h m z (omega arith)) (two_first allowed s f h _ same_head x v w z (omega arith))
+        | yes l ↦ elim (dec_lt w s.n) [
+          | no n ↦ rw (e, ← due_far b s f h m z (omega arith)) (two_second allowed s f h _ same_head x v w z l (omega arith))
+          | yes n ↦ absurd (k (e ∙ sym (due_none b s f h m z (omega arith))))
+        ]
+      ]
+    ]
+
+    module _ (z : d ≡ 0) where
+      pub both_same : v ≡ w → refuses 5 0 ≡ ask_two allowed s f h v w x
+      both_same q = let p = ask_passed b s f h m (sym e ∙ z) in two_same allowed s f h _ same_head x v w p.0 (omega arith) (omega arith) q
+
+      pub both_answer : (v ≡ w → ⊥) → gives x ≡ ask_two allowed s f h v w x
+      both_answer q = let p = ask_passed b s f h m (sym e ∙ z) in two_answer allowed s f h _ same_head x v w p.0 (omega arith) (omega arith) q

@@ -1,6 +1,6 @@
 -- Take in Building: what is known where its head refuses nothing, its refusals, and what an accepted block leaves.
 -- Assumes nothing.
-use Rattle.std.specs.Prelude.{ℕ, zero, suc, ◌+◌, ◌-◌, ◌*◌, ◌/◌, ◌%◌, ◌≤◌, ◌≡◌, refl, Bool, true, false, ◌&&◌, not, List, [], ◌∷◌, T, ltb, eqb, take, drop}
+use Rattle.std.specs.Prelude.{ℕ, zero, suc, ◌+◌, ◌-◌, ◌*◌, ◌/◌, ◌%◌, ◌≤◌, ◌≡◌, refl, Bool, true, false, ◌&&◌, not, List, [], ◌∷◌, T, ltb, eqb, take, drop, Ok, Err}
 use Rattle.std.proofs.Math.Path.{sym, ap}
 use Rattle.std.proofs.Common.{◌∙◌, arith, ltb→lt, drop-drop}
 use Rattle.std.proofs.Math.ListN.{length}
@@ -24,7 +24,6 @@ use Rattle.state.proofs.Laws.Lay.{frag_laid, held_laid}
 use Rattle.state.proofs.Laws.Sound.{underway}
 use Rattle.state.specs.declared.State.{State}
 use Rattle.state.specs.declared.Stage.TheVariants.{Building}
-use Rattle.state.specs.declared.Taken.TheVariants.{On, Refused}
 use Rattle.pieces.specs.Pieces.{Gathers}
 use Rattle.pieces.specs.Laws.Passed.{Passed, passed}
 use Rattle.pieces.specs.Laws.Scratch.{pieces_back}
@@ -69,7 +68,7 @@ same_on d b h h' l e =
 
 -- The answers of take. Its first step leaves the fragment table g and the refusal r.
 module _ (s : State) (f h block g : List ℕ) (same : g ≡ gathered_in s f h) (r : ℕ) (er : r ≡ head_refusal is_building s f h) where
-  pub take_head : (r ≡ 0 → ⊥) → taken_told s (Refused (record { number = r; place = 0 })) g h ≡ take_in is_building s f h block
+  pub take_head : (r ≡ 0 → ⊥) → taken_told s (Err (record { number = r; place = 0 })) g h ≡ take_in is_building s f h block
   unfolding take_in headed
   take_head d = rw (same ∙ sym (gathered_not s f h (λ z. d (er ∙ z))), ← er) (simp tests)
 
@@ -119,7 +118,7 @@ module _ (s : State) (f h block g : List ℕ) (same : g ≡ gathered_in s f h) (
     take_tells = record { found = f; tellable = tellable; gathers = gathers }
 
     -- A block that is refused leaves the table as it was found.
-    pub take_refused : (number place : ℕ) → refuses number place ≡ scan_block s.n s.entries block → (f' : List ℕ) → f' ≡ wiped (4 * s.n) (7 * s.n) g → taken_told s (Refused (record { number = number; place = place })) f' h ≡ take_in is_building s f h block
+    pub take_refused : (number place : ℕ) → refuses number place ≡ scan_block s.n s.entries block → (f' : List ℕ) → f' ≡ wiped (4 * s.n) (7 * s.n) g → taken_told s (Err (record { number = number; place = place })) f' h ≡ take_in is_building s f h block
     unfolding taken
     take_refused number place e f' w =
         let back : f' ≡ f = w ∙ pieces_back s.n f g bounds.frag_long scratch gathers.kept in
@@ -162,13 +161,13 @@ module _ (s : State) (f h block g : List ℕ) (same : g ≡ gathered_in s f h) (
       unfolding moved
       moved_is = λ i. record { n = s.n; k = s.k; stage = sym stage i; passes = s.passes; entries = s.entries + length links; held = sym as_many i; crossed = sym crossed_is i }
 
-      accepted : taken_told s (On (after (length links) held)) f' h' ≡ taken s f h (gives links)
+      accepted : taken_told s (Ok (after (length links) held)) f' h' ≡ taken s f h (gives links)
       unfolding taken leaves moved
       accepted = λ i. record { answer = gives tt; state = moved_is i; frag = frag_is i; held = held_is i }
 
     pub take_accepted : (count : ℕ) → gives count ≡ scan_block s.n s.entries block → (x held : ℕ) (f' h' : List ℕ) → x ≡ count
-        → TellsAll s.n s.k s.held s.entries block g h held f' h' → taken_told s (On (after x held)) f' h' ≡ take_in is_building s f h block
+        → TellsAll s.n s.k s.held s.entries block g h held f' h' → taken_told s (Ok (after x held)) f' h' ≡ take_in is_building s f h block
     unfolding block_links
     take_accepted count e x held f' h' ex D =
         let (links, p, q) = scan_gives s.n s.entries block count (sym e) in
-        ap (λ c. taken_told s (On (after c held)) f' h') (ex ∙ q) ∙ accepted links held f' h' (D f tellable gathers links p) ∙ sym (ap (taken s f h) p) ∙ take_on
+        ap (λ c. taken_told s (Ok (after c held)) f' h') (ex ∙ q) ∙ accepted links held f' h' (D f tellable gathers links p) ∙ sym (ap (taken s f h) p) ∙ take_on

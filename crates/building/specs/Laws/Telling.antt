@@ -293,6 +293,10 @@ module _ {n k count a b : ℕ} {f h : List ℕ} (B : Between n k count a b f h) 
       second = rw found_leaves.tables (sym label_second ∙ sym e);
     }
 
+    -- In one piece, what may be told of it then may be told of it before.
+    pub found_next : {f' : List ℕ} {r : Bool} → p ≡ q → (Within n k count p a b f₂ h → MayHold n k count a b f₂ h r f') → MayHold n k count a b f h r f'
+    found_next e m = may_next found_leaves (m (found_within e))
+
 -- A link inside the piece with smallest member p.
 module _ {n k count p a b : ℕ} {f h : List ℕ} (W : Within n k count p a b f h) where
   open W use {between as B}

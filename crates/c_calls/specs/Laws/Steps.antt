@@ -1,11 +1,11 @@
 -- What the C calls leave, at each of their answers.
 -- Assumes nothing.
-use Rattle.std.specs.Prelude.{ℕ, ◌≤◌, ◌<◌, ◌≡◌, refl, Bool, List, length}
+use Rattle.std.specs.Prelude.{ℕ, ◌≤◌, ◌<◌, ◌≡◌, refl, Bool, List, length, Ok, Err, true, false}
 use Rattle.std.proofs.Common.{sym, ap, ◌∙◌, subst, arith}
 use Rattle.base.specs.Pick.{pick_all, tests}
 use Rattle.base.specs.Answer.{Answer, refuses}
 use Rattle.state.specs.Call.{Begun, Left, bounds_refusal, headed, leaves}
-use Rattle.state.specs.Answers.{begun_told, taken_told, closed_told, asked_told, judged_told}
+use Rattle.state.specs.Answers.{Asked, Ended as Closes, Judged, Started, Taken, begun_told, taken_told, closed_told, asked_told, judged_told}
 use Rattle.state.specs.Take.{takes}
 use Rattle.state.specs.Close.{Ending, end_building, end_reading, close_in, close_call}
 use Rattle.state.proofs.Unique.{closed_decided}
@@ -15,16 +15,7 @@ use Rattle.c_calls.specs.Call.{Returned, returned, reply_of, number_of, nothing,
 use Rattle.numbers.specs.declared.Refusal.{Refusal}
 use Rattle.state.specs.declared.State.{State}
 use Rattle.state.specs.declared.Stage.TheVariants.{Built}
-use Rattle.state.specs.declared.Started.{Started}
-use Rattle.state.specs.declared.Started.TheVariants.{Ready, Refused as Unstarted}
-use Rattle.state.specs.declared.Taken.{Taken}
-use Rattle.state.specs.declared.Taken.TheVariants.{On, Refused as Untaken}
-use Rattle.state.specs.declared.Closed.{Closed}
-use Rattle.state.specs.declared.Closed.TheVariants.{More, Done, Read as Whole, False, Refused as Unclosed}
-use Rattle.state.specs.declared.Asked.{Asked}
-use Rattle.state.specs.declared.Asked.TheVariants.{Number, Refused as Unasked}
-use Rattle.state.specs.declared.Judged.{Judged}
-use Rattle.state.specs.declared.Judged.TheVariants.{Yes, No, Refused as Unjudged}
+use Rattle.state.specs.declared.Closed.TheVariants.{More, Done, Read as Whole, False}
 
 -- An array too short, and one that is not.
 module _ {A : Type 0} (w : List ℕ) (x y : A) where
@@ -50,8 +41,8 @@ with_tables e f h = record { reply = e.reply; state = e.state; frag = f; held = 
 
 begun_told_lem : (w : List ℕ) (a : Started) (f h : List ℕ) → with_tables (begun_end a w) f h ≡ begun w (begun_told a f h)
 unfolding begun begun_words number_of
-begun_told_lem w (Ready s) f h = refl
-begun_told_lem w (Unstarted r) f h = refl
+begun_told_lem w (Ok s) f h = refl
+begun_told_lem w (Err r) f h = refl
 
 -- Start and adopt: the call was made with n₀ and k₀, the numbers given, and answered with a.
 module _ (n₀ n k₀ k : ℕ) (en : n₀ ≡ n) (ek : k₀ ≡ k) (w f h : List ℕ) where
@@ -72,13 +63,13 @@ on_short w f h x p = short_is w _ _ p
 -- Open reading and take: the call was made on s₀, the state in the words.
 opened_told_lem : (w : List ℕ) (s : State) (a : Taken) (f h : List ℕ) → with_tables (opened_end a w) f h ≡ left number_of w (taken_told s a f h)
 unfolding left left_words number_of
-opened_told_lem w s (On x) f h = refl
-opened_told_lem w s (Untaken r) f h = refl
+opened_told_lem w s (Ok x) f h = refl
+opened_told_lem w s (Err r) f h = refl
 
 taken_told_lem : (w : List ℕ) (s : State) (a : Taken) (f h : List ℕ) → with_tables (taken_end a w) f h ≡ left (reply_of nothing) w (taken_told s a f h)
 unfolding left left_words reply_of
-taken_told_lem w s (On x) f h = refl
-taken_told_lem w s (Untaken r) f h = refl
+taken_told_lem w s (Ok x) f h = refl
+taken_told_lem w s (Err r) f h = refl
 
 module _ (w f h : List ℕ) (call : State → Left (Unit {0})) (s₀ s₁ : State) (es : s₀ ≡ s₁) (l : 7 ≤ length w) (f' h' : List ℕ) (a : Taken) (p : taken_told s₀ a f' h' ≡ call s₀) (e : Ended) where
   pub open_long : e ≡ opened_end a w → with_tables e f' h' ≡ on_state w f h (left number_of w (call s₁))
@@ -101,43 +92,43 @@ close_placed s f h =
     (λ m p e. cc)
 
 -- and refusal 9 is told by False alone.
-not_nine : (s : State) (f h f' h' : List ℕ) (r : Refusal) → closed_told s (Unclosed r) f' h' ≡ close_call s f h → r.number ≡ 9 → ⊥
+not_nine : (s : State) (f h f' h' : List ℕ) (r : Refusal) → closed_told s (Err r) f' h' ≡ close_call s f h → r.number ≡ 9 → ⊥
 unfolding Placed close_call
 not_nine s f h f' h' r e n =
     let z : r.place ≡ 0 = close_placed s f h r.number r.place (sym (ap (λ (x : Left Ending). x.answer) e)) in
-    let same : closed_told s (False s) f' h' ≡ closed_told s (Unclosed r) f' h' = rw (n, z) refl in
-    let (q, g, i) = closed_decided takes refl s f h (Unclosed r) (False s) f' f' h' h' e (same ∙ e) in
+    let same : closed_told s (Ok (False s)) f' h' ≡ closed_told s (Err r) f' h' = rw (n, z) refl in
+    let (q, g, i) = closed_decided takes refl s f h (Err r) (Ok (False s)) f' f' h' h' e (same ∙ e) in
     let no : ◌≡◌ {A = ℕ} 0 1 = cc in
     omega arith
 
 -- so that close leaves the words of its answer.
-closed_told_lem : (w : List ℕ) (s : State) (a : Closed) (f h : List ℕ) → ((r : Refusal) → a ≡ Unclosed r → r.number ≡ 9 → ⊥) → with_tables (closed_end a w) f h ≡ closed w (closed_told s a f h)
+closed_told_lem : (w : List ℕ) (s : State) (a : Closes) (f h : List ℕ) → ((r : Refusal) → a ≡ Err r → r.number ≡ 9 → ⊥) → with_tables (closed_end a w) f h ≡ closed w (closed_told s a f h)
 unfolding closed closed_words reply_of
-closed_told_lem w s (More x) f h n = refl
-closed_told_lem w s (Done x) f h n = refl
-closed_told_lem w s (Whole x) f h n = refl
-closed_told_lem w s (False x) f h n = simp tests
-closed_told_lem w s (Unclosed r) f h n = let d = n r refl in simp tests
+closed_told_lem w s (Ok (More x)) f h n = refl
+closed_told_lem w s (Ok (Done x)) f h n = refl
+closed_told_lem w s (Ok (Whole x)) f h n = refl
+closed_told_lem w s (Ok (False x)) f h n = simp tests
+closed_told_lem w s (Err r) f h n = let d = n r refl in simp tests
 
-pub close_long : (w f h : List ℕ) (s₀ : State) → s₀ ≡ state_in Built w → 7 ≤ length w → (f' h' : List ℕ) (a : Closed) → closed_told s₀ a f' h' ≡ close_call s₀ f h
+pub close_long : (w f h : List ℕ) (s₀ : State) → s₀ ≡ state_in Built w → 7 ≤ length w → (f' h' : List ℕ) (a : Closes) → closed_told s₀ a f' h' ≡ close_call s₀ f h
     → (e : Ended) → e ≡ closed_end a w → with_tables e f' h' ≡ c_close w f h
 unfolding c_close on_state
 close_long w f h s₀ es l f' h' a p e q =
-    let n : (r : Refusal) → a ≡ Unclosed r → r.number ≡ 9 → ⊥
-    = λ r z. not_nine s₀ f h f' h' r (subst (λ (x : Closed). closed_told s₀ x f' h' ≡ close_call s₀ f h) z p) in
+    let n : (r : Refusal) → a ≡ Err r → r.number ≡ 9 → ⊥
+    = λ r z. not_nine s₀ f h f' h' r (subst (λ (x : Closes). closed_told s₀ x f' h' ≡ close_call s₀ f h) z p) in
     rw (q, closed_told_lem w s₀ a f' h' n, p, es) (long_is w _ _ l)
 
 -- The questions, on the state in the words.
 asked_told_lem : (a : Asked) → asked_reply a ≡ reply_of itself (asked_told a)
 unfolding reply_of
-asked_told_lem (Number x) = refl
-asked_told_lem (Unasked r) = refl
+asked_told_lem (Ok x) = refl
+asked_told_lem (Err r) = refl
 
 judged_told_lem : (a : Judged) → judged_reply a ≡ reply_of mark_word (judged_told a)
 unfolding reply_of
-judged_told_lem Yes = refl
-judged_told_lem No = refl
-judged_told_lem (Unjudged r) = refl
+judged_told_lem (Ok true) = refl
+judged_told_lem (Ok false) = refl
+judged_told_lem (Err r) = refl
 
 module _ {A : Type 0} (word : A → ℕ) (w : List ℕ) (b : Answer A) where
   pub asks_short : length w < 7 → reply 3 0 ≡ asks word w b

@@ -1,6 +1,8 @@
 -- What the functions on a telling leave, at each of their answers.
 -- Assumes nothing.
-use Rattle.std.specs.Prelude.{ℕ, ◌≤◌, ◌<◌, ◌≡◌, refl, List, [], ◌∷◌, length, get_or}
+use Rattle.std.specs.Prelude.{ℕ, ◌≤◌, ◌<◌, ◌≡◌, refl, List, [], ◌∷◌, length, get_or, Result, Ok, Err}
+use Rattle.std.specs.Result.{result_unwrap_or}
+use Rattle.std.proofs.Common.{arith}
 use Rattle.std.proofs.lemmas.List.Edits.{sets, sets-eq}
 use Rattle.base.specs.Pick.{tests}
 use Rattle.state.specs.declared.State.{State}
@@ -9,6 +11,9 @@ use Rattle.numbers.specs.declared.Refusal.{Refusal}
 use Rattle.c_words.specs.State.{state_in, state_words}
 use Rattle.c_words.specs.Pair.{low_word, high_word, joined}
 use Rattle.telling.specs.Tell.{next_does}
+use Rattle.telling.specs.StepNumber.{Names}
+use Rattle.telling.specs.declared.steps.UnknownStep.{UnknownStep}
+use Rattle.telling.specs.declared.Step.{Step}
 use Rattle.telling.specs.declared.Step.TheVariants.{First, Head, Links, Over}
 use Rattle.telling.specs.declared.Telling.{Telling}
 use Rattle.telling.specs.declared.Heard.TheVariants.{Bytes, End, Failed, NoFile}
@@ -36,6 +41,13 @@ module _ (x : ℕ) where
       pub step_over : (x ≡ 2 → ⊥) → Over ≡ step_in x
       unfolding step_in
       step_over p = simp tests
+
+pub step_told : (x : ℕ) (r : Result Step UnknownStep) → Names x r → result_unwrap_or r Over ≡ step_in x
+step_told x (Ok First) p = step_0 x p
+step_told x (Ok Head) p = step_1 x (omega (arith, p)) p
+step_told x (Ok Links) p = step_2 x (omega (arith, p)) (omega (arith, p)) p
+step_told x (Ok Over) p = step_over x (omega (arith, p)) (omega (arith, p)) (omega (arith, p))
+step_told x (Err e) p = step_over x (omega (arith, p.1)) (omega (arith, p.1)) (omega (arith, p.1))
 
 -- The bytes at the buffer's front.
 pub have_over : (x low high : ℕ) → 2 < x → 0 ≡ have_in x low high

@@ -1,6 +1,8 @@
 -- What the functions leave, at each of their answers.
 -- Assumes nothing.
-use Rattle.std.specs.Prelude.{ℕ, ◌≤◌, ◌<◌, ◌≡◌, refl, List, [], ◌∷◌, length, get_or, eqb}
+use Rattle.std.specs.Prelude.{ℕ, ◌≤◌, ◌<◌, ◌≡◌, refl, List, [], ◌∷◌, length, get_or, eqb, Result, Ok, Err, true, false}
+use Rattle.std.specs.Result.{result_unwrap_or}
+use Rattle.std.proofs.Common.{arith}
 use Rattle.std.proofs.lemmas.List.Edits.{sets, sets-eq}
 use Rattle.base.specs.Pick.{tests}
 use Rattle.c_words.specs.State.{stage_in, entries_in, state_in, stage_word, mark_word, word_for, word_most, state_list, state_words}
@@ -9,16 +11,10 @@ use Rattle.numbers.specs.declared.Refusal.{Refusal}
 use Rattle.state.specs.declared.State.{State}
 use Rattle.state.specs.declared.Stage.{Stage}
 use Rattle.state.specs.declared.Stage.TheVariants.{Building, Built, Reading, Read}
-use Rattle.state.specs.declared.Started.{Started}
-use Rattle.state.specs.declared.Started.TheVariants.{Ready, Refused as Unstarted}
-use Rattle.state.specs.declared.Taken.{Taken}
-use Rattle.state.specs.declared.Taken.TheVariants.{On, Refused as Untaken}
-use Rattle.state.specs.declared.Closed.{Closed}
-use Rattle.state.specs.declared.Closed.TheVariants.{More, Done, Read as Whole, False, Refused as Unclosed}
-use Rattle.state.specs.declared.Asked.{Asked}
-use Rattle.state.specs.declared.Asked.TheVariants.{Number, Refused as Unasked}
-use Rattle.state.specs.declared.Judged.{Judged}
-use Rattle.state.specs.declared.Judged.TheVariants.{Yes, No, Refused as Unjudged}
+use Rattle.state.specs.declared.Closed.TheVariants.{More, Done, Read as Whole, False}
+use Rattle.state.specs.declared.stages.UnknownStage.{UnknownStage}
+use Rattle.state.specs.StageNumber.{Names}
+use Rattle.state.specs.Answers.{Asked, Ended, Judged, Started, Taken}
 
 -- The stage of a word.
 module _ (other : Stage) (x : ℕ) where
@@ -44,6 +40,13 @@ module _ (other : Stage) (x : ℕ) where
         pub stage_other : (x ≡ 3 → ⊥) → other ≡ stage_in other x
         unfolding stage_in
         stage_other p = simp tests
+
+pub stage_told : (other : Stage) (x : ℕ) (r : Result Stage UnknownStage) → Names x r → result_unwrap_or r other ≡ stage_in other x
+stage_told other x (Ok Building) p = stage_0 other x p
+stage_told other x (Ok Built) p = stage_1 other x (omega (arith, p)) p
+stage_told other x (Ok Reading) p = stage_2 other x (omega (arith, p)) (omega (arith, p)) p
+stage_told other x (Ok Read) p = stage_3 other x (omega (arith, p)) (omega (arith, p)) (omega (arith, p)) p
+stage_told other x (Err e) p = stage_other other x (omega (arith, p.1)) (omega (arith, p.1)) (omega (arith, p.1)) (omega (arith, p.1))
 
 pub entries_bad : (e m : ℕ) → 1 < m → 16777216 ≡ entries_in e m
 unfolding entries_in
@@ -80,52 +83,52 @@ state_short s w p = simp tests
 
 -- The arms of each answer a: the words w' that were written over w.
 module _ (w w' : List ℕ) (a : Started) where
-  pub begun_ready : (s : State) → a ≡ Ready s → w' ≡ state_words s w → ended 0 0 w' ≡ begun_end a w
+  pub begun_ready : (s : State) → a ≡ Ok s → w' ≡ state_words s w → ended 0 0 w' ≡ begun_end a w
   begun_ready s p q = rw (p, q) refl
 
-  pub begun_refused : (r : Refusal) → a ≡ Unstarted r → w' ≡ w → ended r.number 0 w' ≡ begun_end a w
+  pub begun_refused : (r : Refusal) → a ≡ Err r → w' ≡ w → ended r.number 0 w' ≡ begun_end a w
   begun_refused r p q = rw (p, q) refl
 
 module _ (w w' : List ℕ) (a : Taken) where
-  pub opened_on : (s : State) → a ≡ On s → w' ≡ state_words s w → ended 0 0 w' ≡ opened_end a w
+  pub opened_on : (s : State) → a ≡ Ok s → w' ≡ state_words s w → ended 0 0 w' ≡ opened_end a w
   opened_on s p q = rw (p, q) refl
 
-  pub opened_refused : (r : Refusal) → a ≡ Untaken r → w' ≡ w → ended r.number 0 w' ≡ opened_end a w
+  pub opened_refused : (r : Refusal) → a ≡ Err r → w' ≡ w → ended r.number 0 w' ≡ opened_end a w
   opened_refused r p q = rw (p, q) refl
 
-  pub taken_on : (s : State) → a ≡ On s → w' ≡ state_words s w → ended 0 0 w' ≡ taken_end a w
+  pub taken_on : (s : State) → a ≡ Ok s → w' ≡ state_words s w → ended 0 0 w' ≡ taken_end a w
   taken_on s p q = rw (p, q) refl
 
-  pub taken_refused : (r : Refusal) → a ≡ Untaken r → w' ≡ w → ended r.number r.place w' ≡ taken_end a w
+  pub taken_refused : (r : Refusal) → a ≡ Err r → w' ≡ w → ended r.number r.place w' ≡ taken_end a w
   taken_refused r p q = rw (p, q) refl
 
-module _ (w w' : List ℕ) (a : Closed) where
-  pub closed_more : (s : State) → a ≡ More s → w' ≡ state_words s w → ended 0 0 w' ≡ closed_end a w
+module _ (w w' : List ℕ) (a : Ended) where
+  pub closed_more : (s : State) → a ≡ Ok (More s) → w' ≡ state_words s w → ended 0 0 w' ≡ closed_end a w
   closed_more s p q = rw (p, q) refl
 
-  pub closed_done : (s : State) → a ≡ Done s → w' ≡ state_words s w → ended 0 1 w' ≡ closed_end a w
+  pub closed_done : (s : State) → a ≡ Ok (Done s) → w' ≡ state_words s w → ended 0 1 w' ≡ closed_end a w
   closed_done s p q = rw (p, q) refl
 
-  pub closed_read : (s : State) → a ≡ Whole s → w' ≡ state_words s w → ended 0 2 w' ≡ closed_end a w
+  pub closed_read : (s : State) → a ≡ Ok (Whole s) → w' ≡ state_words s w → ended 0 2 w' ≡ closed_end a w
   closed_read s p q = rw (p, q) refl
 
-  pub closed_false : (s : State) → a ≡ False s → w' ≡ state_words s w → ended 9 0 w' ≡ closed_end a w
+  pub closed_false : (s : State) → a ≡ Ok (False s) → w' ≡ state_words s w → ended 9 0 w' ≡ closed_end a w
   closed_false s p q = rw (p, q) refl
 
-  pub closed_refused : (r : Refusal) → a ≡ Unclosed r → w' ≡ w → ended r.number r.place w' ≡ closed_end a w
+  pub closed_refused : (r : Refusal) → a ≡ Err r → w' ≡ w → ended r.number r.place w' ≡ closed_end a w
   closed_refused r p q = rw (p, q) refl
 
-pub tell_number : (a : Asked) (x : ℕ) → a ≡ Number x → reply 0 x ≡ asked_reply a
+pub tell_number : (a : Asked) (x : ℕ) → a ≡ Ok x → reply 0 x ≡ asked_reply a
 tell_number a x p = rw p refl
 
-pub tell_refused : (a : Asked) (r : Refusal) → a ≡ Unasked r → reply r.number r.place ≡ asked_reply a
+pub tell_refused : (a : Asked) (r : Refusal) → a ≡ Err r → reply r.number r.place ≡ asked_reply a
 tell_refused a r p = rw p refl
 
-pub judge_yes : (a : Judged) → a ≡ Yes → reply 0 1 ≡ judged_reply a
+pub judge_yes : (a : Judged) → a ≡ Ok true → reply 0 1 ≡ judged_reply a
 judge_yes a p = rw p refl
 
-pub judge_no : (a : Judged) → a ≡ No → reply 0 0 ≡ judged_reply a
+pub judge_no : (a : Judged) → a ≡ Ok false → reply 0 0 ≡ judged_reply a
 judge_no a p = rw p refl
 
-pub judge_refused : (a : Judged) (r : Refusal) → a ≡ Unjudged r → reply r.number r.place ≡ judged_reply a
+pub judge_refused : (a : Judged) (r : Refusal) → a ≡ Err r → reply r.number r.place ≡ judged_reply a
 judge_refused a r p = rw p refl

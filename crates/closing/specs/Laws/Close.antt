@@ -1,6 +1,6 @@
 -- Close in Building: its refusal, what its end asks, and what it leaves.
 -- Assumes nothing.
-use Rattle.std.specs.Prelude.{ℕ, suc, ◌+◌, ◌-◌, ◌*◌, ◌≤◌, ◌≡◌, true, false, List, ◌++◌, length, take, drop, replicate, T}
+use Rattle.std.specs.Prelude.{ℕ, suc, ◌+◌, ◌-◌, ◌*◌, ◌≤◌, ◌≡◌, true, false, List, ◌++◌, length, take, drop, replicate, T, Ok, Err}
 use Rattle.std.proofs.Math.Path.{refl, sym, ap}
 use Rattle.std.proofs.Common.{◌∙◌, add-one, length-take, drop_at}
 use native.Mathlib.Omega.{arith}
@@ -30,7 +30,7 @@ use Rattle.state.proofs.Laws.Sound.{underway}
 use Rattle.state.specs.declared.State.{State}
 use Rattle.state.specs.declared.Stage.{Stage}
 use Rattle.state.specs.declared.Stage.TheVariants.{Building, Built}
-use Rattle.state.specs.declared.Closed.TheVariants.{More, Done, Refused}
+use Rattle.state.specs.declared.Closed.TheVariants.{More, Done}
 use Rattle.closing.specs.Closing.{Endable, EndsPass}
 use Rattle.pieces.specs.Gathered.{held_tables, holds, gathered_in}
 use Rattle.pieces.specs.Laws.Gathered.{gathered_not}
@@ -45,7 +45,7 @@ wiped_held c b h l g e =
     rw (wiped_is 0 c h (omega arith) (omega arith), z, d) (sym (zeros c (b - c) b (drop b h) (omega arith)))
 
 module _ (s : State) (f h : List ℕ) where
-  pub close_head : (r : ℕ) → r ≡ head_refusal is_building s f h → (r ≡ 0 → ⊥) → (g : List ℕ) → g ≡ gathered_in s f h → closed_told s (Refused (record { number = r; place = 0 })) g h ≡ close_in is_building s f h
+  pub close_head : (r : ℕ) → r ≡ head_refusal is_building s f h → (r ≡ 0 → ⊥) → (g : List ℕ) → g ≡ gathered_in s f h → closed_told s (Err (record { number = r; place = 0 })) g h ≡ close_in is_building s f h
   unfolding close_in headed
   close_head r e d g q = rw (q ∙ sym (gathered_not s f h (λ z. d (e ∙ z))), ← e) (simp tests)
 
@@ -121,10 +121,10 @@ module _ (s : State) (f h : List ℕ) where
       unfolding close_in headed
       close_on = rw (z, in_building) (simp tests)
 
-      pub close_done : true ≡ done s.n (forest_in s.n f') → closed_told s (Done (ended Built)) f' h' ≡ close_in is_building s f h
+      pub close_done : true ≡ done s.n (forest_in s.n f') → closed_told s (Ok (Done (ended Built))) f' h' ≡ close_in is_building s f h
       unfolding end_building leaves moved
       close_done e = (λ i. record { answer = gives whole; state = moved_is Built i; frag = frag_is Built (λ x. x) i; held = held_is i }) ∙ rw (← done_is, ← e, pick_true) at close_on
 
-      pub close_more : false ≡ done s.n (forest_in s.n f') → closed_told s (More (ended Building)) f' h' ≡ close_in is_building s f h
+      pub close_more : false ≡ done s.n (forest_in s.n f') → closed_told s (Ok (More (ended Building))) f' h' ≡ close_in is_building s f h
       unfolding end_building leaves moved
       close_more e = (λ i. record { answer = gives more; state = moved_is Building i; frag = frag_is Building (λ x. x) i; held = held_is i }) ∙ rw (← done_is, ← e, pick_false) at close_on

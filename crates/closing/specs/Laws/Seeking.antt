@@ -1,17 +1,20 @@
 -- The next neighbour of a walk: its place found by halves, and the cursors, which leave only placed fragments behind.
 -- Assumes nothing.
-use Rattle.std.specs.Prelude.{ℕ, zero, suc, ◌+◌, ◌-◌, ◌*◌, ◌≤◌, ◌<◌, ◌≡◌, refl, ◌&&◌, not, List, ◌≢◌, T, length, get_or, set}
+use Rattle.std.specs.Prelude.{ℕ, zero, suc, ◌+◌, ◌-◌, ◌*◌, ◌%◌, ◌≤◌, ◌<◌, ◌≡◌, refl, true, false, ◌&&◌, not, List, ◌≢◌, T, leb, length, get_or, set, take, drop}
+use Rattle.std.specs.List.Sorted.{IsNonDecreasingBy, IsPartitionPoint}
 use Rattle.std.proofs.Common.{sym, ap, ◌∙◌, arith, add-one, T_not}
 use Rattle.std.proofs.Math.Decide.{ℕ_discrete, dec_lt}
 use Rattle.std.proofs.Math.Dec.{not_T}
-use Rattle.std.proofs.lemmas.List.{set-get_or}
+use Rattle.std.proofs.lemmas.Bool.{leb-true, leb-false}
+use Rattle.std.proofs.lemmas.Grind.{get_or_default_zero}
+use Rattle.std.proofs.lemmas.List.{set-get_or, get_or-take, get_or-drop, length-drop, length-take-le}
 use Rattle.base.specs.Truth.{and_intro, and_l, and_r}
 use Rattle.rules.specs.Links.{linked}
 use Rattle.rules.specs.Tables.{placed}
 use Rattle.rules.specs.Building.{next_of}
 use Rattle.rules.proofs.Laws.Links.{linked_turn}
 use Rattle.rules.proofs.Laws.Tables.{placed_rank, rank_placed}
-use Rattle.state.specs.Layout.{tables_in, held_links}
+use Rattle.state.specs.Layout.{radix, tables_in, held_links}
 use Rattle.state.proofs.Laws.Layout.{level_word}
 use Rattle.closing.specs.Arranged.{links_in, start_of, smaller_at, after_at, Arranged}
 use Rattle.closing.specs.Walk.{Wide, Placed, greater_of, Smaller, Greater, cursors_at, Found, Findable, Seekable, SeeksSmaller, SeeksGreater, Seeks}
@@ -72,6 +75,47 @@ module _ {n b v : ℕ} {f h : List ℕ} (F : Findable n b v f h) where
     halved_found g =
         let e : low ≡ H.place = omega (arith, H.after_low, H.before_high) in
         record { from = H.low_in; to = omega (arith, H.before_high, H.high_in); here = ap (smaller_at h) e ∙ H.here }
+
+-- The smaller neighbours of b rise: behind the first of them come as many that are not above v as v stands behind it.
+module _ {n b v : ℕ} {f h : List ℕ} (F : Findable n b v f h) where
+  -- Those behind the first, as the code cuts them out of the held table.
+  abbrev others : List ℕ
+  others = take (get_or f (4 * n + (b + 1)) 0 - (start_of n f b + 1)) (drop (start_of n f b + 1) h)
+
+  others_long : length others ≡ start_of n f (suc b) - (start_of n f b + 1)
+  others_long =
+      let e = start_next n f b in
+      let l = length-drop (start_of n f b + 1) h in
+      omega (arith, e, length-take-le (get_or f (4 * n + (b + 1)) 0 - (start_of n f b + 1)) (drop (start_of n f b + 1) h) (omega (arith, e, l, F.there)))
+
+  others_at : (k d : ℕ) → k < length others → get_or others k d % radix ≡ smaller_at h (start_of n f b + 1 + k)
+  others_at k d l =
+      let e = get_or-take (get_or f (4 * n + (b + 1)) 0 - (start_of n f b + 1)) (drop (start_of n f b + 1) h) k 0 (omega (arith, others_long, start_next n f b)) in
+      ap (λ w. w % radix) (get_or_default_zero others k d l ∙ e ∙ get_or-drop (start_of n f b + 1) h k 0)
+
+  pub others_rise : IsNonDecreasingBy (λ w. w % radix) others
+  others_rise i j d l m = elim (ℕ_discrete i j) [
+    | yes e ↦ rw e (omega arith)
+    | no e ↦ omega (arith, others_at i d (omega arith), others_at j d m, F.rising (start_of n f b + 1 + i) (start_of n f b + 1 + j) (omega arith) (omega arith) (omega (arith, others_long)))
+  ]
+
+  pub others_passed : (i : ℕ) → IsPartitionPoint (λ w. leb (w % radix) v ≡ true) (λ w. leb (w % radix) v ≡ false) others i → i ≤ length others → Found n b v f h (start_of n f b + i)
+  others_passed i P g = elim (dec_lt F.place (start_of n f b + i)) [
+    | yes l ↦
+        let k = F.place - start_of n f b in
+        let m : k < length others = omega (arith, F.found.from) in
+        absurd (omega (arith, F.found.from, others_at k 0 m, leb-true _ _ (P.0 k 0 (omega arith) (omega (arith, F.found.from))), F.rising F.place (start_of n f b + 1 + k) F.found.from (omega (arith, F.found.from)) (omega (arith, others_long)), F.found.here))
+    | no l ↦ elim (ℕ_discrete (start_of n f b + i) F.place) [
+      | yes e ↦ rw e F.found
+      | no d ↦
+          let m : i < length others = omega (arith, others_long, F.found.to) in
+          let above : v < smaller_at h (start_of n f b + 1 + i) = omega (arith, others_at i 0 m, leb-false _ _ (P.1 i 0 (omega arith) m)) in
+          elim (ℕ_discrete (start_of n f b + 1 + i) F.place) [
+            | yes e ↦ absurd (omega (arith, ap (smaller_at h) e, F.found.here))
+            | no e ↦ absurd (omega (arith, F.rising (start_of n f b + 1 + i) F.place (omega arith) (omega arith) F.found.to, F.found.here))
+          ]
+    ]
+  ]
 
 module _ {n c : ℕ} {h₀ f h : List ℕ} (A : Arranged n c h₀ f h) where
   pub arranged_wide : Wide n f

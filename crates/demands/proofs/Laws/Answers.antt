@@ -1,6 +1,6 @@
 -- What is asked at a moment of a run, and what no call of a run answers.
 -- Assumes nothing.
-use Rattle.std.specs.Prelude.{ℕ, ◌≤◌, ◌<◌, ◌≡◌, List, ◌⊎◌, ◌≢◌, T}
+use Rattle.std.specs.Prelude.{ℕ, ◌≤◌, ◌<◌, ◌≡◌, List, ◌⊎◌, ◌≢◌, T, Ok}
 use Rattle.std.proofs.Common.{sym, ◌∙◌, subst, inl, inr, arith}
 use Rattle.std.proofs.Math.Path.{ap}
 use Rattle.std.proofs.Math.Decide.{dec_lt}
@@ -17,7 +17,6 @@ use Rattle.state.specs.Test.{is_building, is_read}
 use Rattle.state.proofs.Unique.{asked_decided, judged_decided}
 use Rattle.state.specs.Ask.{asks, parent_call, level_call, piece_call, cut_call, sole_call}
 use Rattle.state.specs.declared.State.{State}
-use Rattle.state.specs.declared.Asked.TheVariants.{Number}
 use Rattle.state.specs.declared.Stage.{Stage}
 use Rattle.state.specs.declared.Stage.TheVariants.{Building, Built, Reading, Read}
 use Rattle.demands.specs.Promises.{Asks, PieceAnswer}
@@ -73,8 +72,8 @@ module _ {o : Origin} {m : Moment} (H : Holds o m) where
     unfolding parent_call
     parent_asked = one_given asks s f h H.tested v _ (not_T (is_building s.stage) b) (omega (arith, H.size)) ∙ ap gives (sym (par_placed (tables_at m) v (placed_at H b v l)))
 
-    pub answers_parent : (a : ParentAt m v) → a.answer ≡ Number (par (tables_at m) v)
-    answers_parent a = asked_decided _ a.answer (Number (par (tables_at m) v)) a.promise (sym parent_asked)
+    pub answers_parent : (a : ParentAt m v) → a.answer ≡ Ok (par (tables_at m) v)
+    answers_parent a = asked_decided _ a.answer (Ok (par (tables_at m) v)) a.promise (sym parent_asked)
 
     pub answers_level : (a : LevelAt m v) → Gives (StepsToRoot (par (tables_at m)) v) a.answer
     unfolding level_call

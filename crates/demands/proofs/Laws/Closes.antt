@@ -1,6 +1,6 @@
 -- What close answers: of any state and tables where it refuses, and at the moments of runs.
 -- Assumes nothing.
-use Rattle.std.specs.Prelude.{ℕ, ◌≡◌, List, ◌≢◌, ◌↔◌, T}
+use Rattle.std.specs.Prelude.{ℕ, ◌≡◌, List, ◌≢◌, ◌↔◌, T, Ok, Err}
 use Rattle.std.proofs.Common.{sym, ap, ◌∙◌, subst, eqb→eq}
 use Rattle.base.specs.Answer.{refuses}
 use Rattle.base.specs.Truth.{T_dec}
@@ -14,8 +14,7 @@ use Rattle.state.specs.Close.{close_call}
 use Rattle.state.proofs.Laws.KeepsCalls.{close_keeps}
 use Rattle.state.proofs.Laws.KeepsTables.{reads_settled}
 use Rattle.state.specs.declared.State.{State}
-use Rattle.state.specs.declared.Closed.{Closed}
-use Rattle.state.specs.declared.Closed.TheVariants.{False, Refused as Unclosed}
+use Rattle.state.specs.declared.Closed.TheVariants.{False}
 use Rattle.demands.specs.Promises.{CloseAnswer, ends_building, ends_read, ends_false, changes}
 use Rattle.demands.specs.Run.{Origin, close, Moment, next, CloseAt, fragments, tables_at}
 use Rattle.demands.specs.Claims.{InBuilding, InReading, InRead, NotesLost}
@@ -23,19 +22,20 @@ use Rattle.demands.proofs.Laws.Refusals.{close_loses, nine_at}
 use Rattle.demands.proofs.Laws.Answered.{next_step, closed_refused, closed_false, closed_building, closed_read, false_nine, nine_false}
 use Rattle.demands.proofs.Laws.Runs.{Holds}
 use Rattle.demands.proofs.Laws.Results.{building_told, accepts_exactly, close_read, close_false, read_next}
+use Rattle.state.specs.Answers.{Ended}
 
 module _ (s : State) (f h : List ℕ) (a : CloseAnswer s f h) where
   -- A plain refusal is none of those that change something.
-  pub close_refused : (r : Refusal) → a.answer ≡ Unclosed r → (T (changes r.number) → ⊥) × (a.frag ≡ f) × (a.held ≡ h)
+  pub close_refused : (r : Refusal) → a.answer ≡ Err r → (T (changes r.number) → ⊥) × (a.frag ≡ f) × (a.held ≡ h)
   close_refused r e =
       let (x, p, q) = closed_refused a r e in
       let other : r.number ≢ 9 = λ z.
       let y : (close_call s f h).answer ≡ refuses 9 r.place = x ∙ ap (λ (i : ℕ). refuses i r.place) z in
-      subst (λ (t : Closed). T (ends_false t)) e (nine_false s f h a (y ∙ ap (refuses 9) (nine_at s f h r.place y))) in
+      subst (λ (t : Ended). T (ends_false t)) e (nine_false s f h a (y ∙ ap (refuses 9) (nine_at s f h r.place y))) in
       let (_, u, v) = (close_keeps s f h).same _ _ other x in
       (λ t. other (eqb→eq r.number 9 t), p ∙ u, q ∙ v)
 
-  pub close_lost : (s' : State) → a.answer ≡ False s' → NotesLost s f h s' a.frag a.held
+  pub close_lost : (s' : State) → a.answer ≡ Ok (False s') → NotesLost s f h s' a.frag a.held
   close_lost s' e =
       let (x, i, p, q) = closed_false a s' e in
       let L = (close_loses s f h 0 x).1 in

@@ -1,7 +1,7 @@
 -- How a run counts its passes, and that Building once left is left for good.
 -- Assumes nothing.
 use Prim.Native.Nat.{ℕ, suc, ◌+◌, ◌≤◌, ◌<◌}
-use Rattle.std.specs.Prelude.{◌≡◌, refl, ◌↔◌, T}
+use Rattle.std.specs.Prelude.{◌≡◌, refl, ◌↔◌, T, Ok, Err}
 use Rattle.std.proofs.Common.{sym, ◌∙◌}
 use Rattle.std.proofs.Math.Path.{ap}
 use mathlib.Core.List.{List, [], ◌∷◌, ◌++◌}
@@ -26,10 +26,9 @@ use Rattle.state.specs.Test.{is_building, is_reading}
 use Rattle.state.specs.Call.{moved}
 use Rattle.state.specs.Take.{takes}
 use Rattle.state.specs.Close.{opens}
-use Rattle.state.specs.Answers.{closed_told}
+use Rattle.state.specs.Answers.{Ended, closed_told}
 use Rattle.state.specs.declared.State.{State}
-use Rattle.state.specs.declared.Closed.{Closed}
-use Rattle.state.specs.declared.Closed.TheVariants.{More, Done, Read, False, Refused as Unclosed}
+use Rattle.state.specs.declared.Closed.TheVariants.{More, Done, Read, False}
 use Rattle.demands.specs.Promises.{ends_building}
 use Rattle.demands.specs.Run.{Origin, start, adopt, Call, take, close, open_reading, Moment, tables_at, after_take, after_close, after_open, Answered, next, opening, Run, begins, goes, now_told, calls, closes_in, accepted_closes, forest_of}
 use Rattle.demands.specs.Step.{step}
@@ -83,13 +82,13 @@ building_next : {o : Origin} {m : Moment} → Holds o m → T (is_building m.sta
 building_next {o} {m} H b a = rw (next_step m close a) (building_adds H b)
 
 -- The lists told are as many as the closes accepted in Building.
-counts_alike : (s : State) (c : Closed) (f h : List ℕ) (l : List (List Link)) (g : List Link) (a : ℕ) → a ≡ length l → pick (ends_building c) (suc a) a ≡ length (now_told (closed_told s c f h).answer l g)
+counts_alike : (s : State) (c : Ended) (f h : List ℕ) (l : List (List Link)) (g : List Link) (a : ℕ) → a ≡ length l → pick (ends_building c) (suc a) a ≡ length (now_told (closed_told s c f h).answer l g)
 unfolding pick
-counts_alike s (More x) f h l g a e = omega (arith, length-append l (g ∷ []))
-counts_alike s (Done x) f h l g a e = omega (arith, length-append l (g ∷ []))
-counts_alike s (Read x) f h l g a e = e
-counts_alike s (False x) f h l g a e = e
-counts_alike s (Unclosed r) f h l g a e = e
+counts_alike s (Ok (More x)) f h l g a e = omega (arith, length-append l (g ∷ []))
+counts_alike s (Ok (Done x)) f h l g a e = omega (arith, length-append l (g ∷ []))
+counts_alike s (Ok (Read x)) f h l g a e = e
+counts_alike s (Ok (False x)) f h l g a e = e
+counts_alike s (Err r) f h l g a e = e
 
 pub closes_told : {o : Origin} {m : Moment} (r : Run o m) → accepted_closes r ≡ length m.told
 unfolding accepted_closes next after_take after_close after_open opening

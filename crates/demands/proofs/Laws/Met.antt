@@ -1,6 +1,6 @@
 -- Known instances that meet the premises of the demands' theorems, so that these are not empty.
 -- Assumes nothing.
-use Rattle.std.specs.Prelude.{ℕ, ◌+◌, ◌*◌, ◌/◌, ◌≤◌, ◌≡◌, refl, Bool, true, false, ◌||◌, List, [], ◌∷◌, ◌++◌, T, replicate}
+use Rattle.std.specs.Prelude.{ℕ, ◌+◌, ◌*◌, ◌/◌, ◌≤◌, ◌≡◌, refl, Bool, true, false, ◌||◌, List, [], ◌∷◌, ◌++◌, T, replicate, Ok}
 use Rattle.std.proofs.Common.{sym, ap, ◌∙◌, append-nil, arith}
 use Rattle.base.specs.Pick.{pick}
 use Rattle.base.specs.Answer.{gives, refuses}
@@ -28,9 +28,6 @@ use Rattle.state.specs.Close.{open_call, end_building, end_reading, close_in, cl
 use Rattle.state.specs.Ask.{ask_one, ask_two, parent_call, piece_call, cut_call, sole_call}
 use Rattle.state.specs.declared.State.{State}
 use Rattle.state.specs.declared.Stage.TheVariants.{Built, Reading, Read}
-use Rattle.state.specs.declared.Started.TheVariants.{Ready}
-use Rattle.state.specs.declared.Asked.TheVariants.{Number}
-use Rattle.state.specs.declared.Judged.TheVariants.{Yes}
 use Rattle.demands.specs.Run.{start, adopt, Call, take, close, open_reading, Moment, after_take, after_close, after_open, TakeAt, OpenAt, CloseAt, PieceAt, SoleAt, begun_by, opening, Run, calls, closes_in, accepted_closes, tables_at}
 use Rattle.demands.specs.Step.{take_at, close_at, open_at, piece_at, sole_at, step, after}
 use Rattle.demands.specs.Course.{none, more, PassTells, build_calls, read_calls}
@@ -184,7 +181,7 @@ met_forest = demand_2_forest (from_4_1 twice).0 (rw computed.built (λ x. x)) (l
 
 pub met_piece : PieceIn (linked square) 2 0
 met_piece =
-    let a : PieceAt p1_built 2 = record { answer = Number 0; frag = p1_built.frag; promise = (sym computed.built_piece, refl) } in
+    let a : PieceAt p1_built 2 = record { answer = Ok 0; frag = p1_built.frag; promise = (sym computed.built_piece, refl) } in
     demand_2_pieces (from_4_1 twice).0 (rw computed.built (λ x. x)) (linked square) (same_told _ computed.built_told) 2 (omega arith) a
 
 pub met_accepts : (a : CloseAt p1_reading) → T (ends_read a.answer)
@@ -192,7 +189,7 @@ met_accepts = demand_3_accepts (from_4_1 (twice ++ (open_reading ∷ tells squar
 
 pub met_sole : Sole square 0 3
 met_sole =
-    let a : SoleAt p1_read 0 3 = record { answer = Yes; promise = sym computed.read_sole } in
+    let a : SoleAt p1_read 0 3 = record { answer = (Ok true); promise = sym computed.read_sole } in
     rw computed.read_telling at
     ((demand_3_truly (from_4_1 (twice ++ (open_reading ∷ tells square ∷ close ∷ []))).0 (rw computed.reads tt)).sole_true 0 3 (omega arith) (omega arith) (omega arith) a)
 
@@ -226,7 +223,7 @@ met_none d =
     never_both ((closed_read a).1 t) computed.false_close
 
 pub met_adopted : (a : AdoptAnswer 3 1 (0 ∷ 0 ∷ 0 ∷ []) (lent 48) (lent 3))
-    → (a.answer ≡ Ready (adopted_state 3 1)) × ((m : Moment) (r : Run (adopt 3 1 (0 ∷ 0 ∷ 0 ∷ [])) m) → calls r ≡ read_calls (written_links triangle ∷ []) → InRead m) → ⊥
+    → (a.answer ≡ Ok (adopted_state 3 1)) × ((m : Moment) (r : Run (adopt 3 1 (0 ∷ 0 ∷ 0 ∷ [])) m) → calls r ≡ read_calls (written_links triangle ∷ []) → InRead m) → ⊥
 met_adopted a x =
     met_none
     (rw append-nil at

@@ -1,6 +1,6 @@
 -- What holds at every moment of every run: the tables pass the test, and are what the rules make of what was told.
 -- Assumes nothing.
-use Rattle.std.specs.Prelude.{ℕ, suc, ◌≤◌, ◌≡◌, List, [], ◌∷◌, ◌++◌, T, eqb}
+use Rattle.std.specs.Prelude.{ℕ, suc, ◌≤◌, ◌≡◌, List, [], ◌∷◌, ◌++◌, T, eqb, Ok}
 use Rattle.std.proofs.Math.Path.{refl, sym, ap, subst}
 use Rattle.std.proofs.Common.{◌∙◌, inl, inr, arith, length-append, ne_eqb}
 use Rattle.std.proofs.Math.Decide.{ℕ_discrete}
@@ -37,7 +37,6 @@ use Rattle.state.proofs.Laws.KeepsTables.{among_links, reads_settled}
 use Rattle.state.proofs.Laws.KeepsCalls.{upholds_on, take_keeps, open_keeps, close_keeps}
 use Rattle.state.proofs.Laws.KeepsBegun.{MakesState, start_keeps, start_makes, adopt_keeps, adopt_makes}
 use Rattle.state.specs.declared.State.{State}
-use Rattle.state.specs.declared.Started.TheVariants.{Ready}
 use Rattle.state.specs.declared.Stage.{Stage}
 use Rattle.state.specs.declared.Stage.TheVariants.{Building, Built, Reading, Read}
 use Rattle.demands.specs.Run.{Origin, start, adopt, Call, take, close, open_reading, Moment, after_take, after_close, after_open, BeginAnswer, begun_by, opening, Run, begins, goes, fragments, room_for, first_tables, forest_of, tables_of, tables_at}
@@ -293,10 +292,10 @@ step_holds H close = close_holds H
 step_holds H open_reading = open_holds H
 
 -- What the answer of a first call leaves is what its definition leaves.
-pub opening_same : (o : Origin) (f h : List ℕ) (a : BeginAnswer o f h) (s : State) → a.answer ≡ Ready s → opening s (begun_by o f h).frag (begun_by o f h).held ≡ opening s a.frag a.held
+pub opening_same : (o : Origin) (f h : List ℕ) (a : BeginAnswer o f h) (s : State) → a.answer ≡ Ok s → opening s (begun_by o f h).frag (begun_by o f h).held ≡ opening s a.frag a.held
 opening_same o f h a s e = let (_, p, q) = begun_ready a s e in λ i. opening s (sym p i) (sym q i)
 
-pub begins_hold : (o : Origin) (f h : List ℕ) (a : BeginAnswer o f h) (s : State) → a.answer ≡ Ready s → Holds o (opening s a.frag a.held)
+pub begins_hold : (o : Origin) (f h : List ℕ) (a : BeginAnswer o f h) (s : State) → a.answer ≡ Ok s → Holds o (opening s a.frag a.held)
 begins_hold o f h a s e = subst (Holds o) (opening_same o f h a s e) (begun_holds o f h s (begun_ready a s e).0)
 
 pub run_holds : {o : Origin} {m : Moment} → Run o m → Holds o m

@@ -1,7 +1,6 @@
 -- `numbers::read_number` meets its contract. Each answer is the one that the bytes read so far leave.
 -- Assumes nothing.
 use Prim.Native.Nat.{◌+◌, ◌*◌, ◌/◌, ◌<◌, ◌≤◌}
-use mathlib.Core.Path.{◌∙◌}
 use native.Mathlib.Omega.{arith}
 use Rattle.numbers.proofs.Laws.Reading.{Follows, follows, third_small, read_end, read_one, read_out, read_long, read_far, read_more}
 use Rattle.numbers.proofs.read_number.Goals as goal
@@ -17,26 +16,26 @@ small c =
     third_small (more c) _ (omega (arith, c.shared_slice_known-1.given (c.args.at + 2)))
 
 pub returns-then-at-bytes : goal.returns-then-at-bytes
-returns-then-at-bytes c = c.no_number.ensures ∙ read_end _ _ (omega arith)
+returns-then-at-bytes c = read_end _ _ (omega arith)
 
 pub returns-then-first-lt128 : goal.returns-then-first-lt128
-returns-then-first-lt128 c = read_one _ _ (omega arith) _ c.wide-first.ensures (omega arith)
+returns-then-first-lt128 c = read_one _ _ (omega arith) _ c.from-first.ensures (omega arith)
 
 pub returns-then-next-bytes : goal.returns-then-next-bytes
 returns-then-next-bytes c =
-    c.no_number-then-next-bytes.ensures ∙ read_out _ _ (omega arith) _ c.wide-first.ensures (omega arith) _ c.byte_at-second.ensures (more (goal.at.returns-then-next-bytes c).After-byte_at-third) (omega arith)
+    read_out _ _ (omega arith) _ c.from-first.ensures (omega arith) _ c.byte_at-second.ensures (more (goal.at.returns-then-next-bytes c).After-byte_at-third) (omega arith)
 
 pub returns-then-value-more : goal.returns-then-value-more
 returns-then-value-more c =
-    c.no_number-then-value-more.ensures ∙ read_long _ _ (omega arith) _ c.wide-first.ensures (omega arith) _ c.byte_at-second.ensures _ c.byte_at-third.ensures (more (goal.at.returns-then-value-more c).After-byte_at-third) (omega arith) (omega arith)
+    read_long _ _ (omega arith) _ c.from-first.ensures (omega arith) _ c.byte_at-second.ensures _ c.byte_at-third.ensures (more (goal.at.returns-then-value-more c).After-byte_at-third) (omega arith) (omega arith)
 
 pub returns-then-value : goal.returns-then-value
 returns-then-value c =
-    c.no_number-then-value.ensures ∙ read_far _ _ (omega arith) _ c.wide-first.ensures (omega arith) _ c.byte_at-second.ensures _ c.byte_at-third.ensures (more (goal.at.returns-then-value c).After-byte_at-third) (omega arith) (omega arith)
+    read_far _ _ (omega arith) _ c.from-first.ensures (omega arith) _ c.byte_at-second.ensures _ c.byte_at-third.ensures (more (goal.at.returns-then-value c).After-byte_at-third) (omega arith) (omega arith)
 
 pub returns : goal.returns
 returns c =
-    read_more _ _ (omega arith) _ c.wide-first.ensures (omega arith) _ c.byte_at-second.ensures _ c.byte_at-third.ensures (more (goal.at.returns c).After-byte_at-third) (omega arith) (omega arith) (omega arith)
+    read_more _ _ (omega arith) _ c.from-first.ensures (omega arith) _ c.byte_at-second.ensures _ c.byte_at-third.ensures (more (goal.at.returns c).After-byte_at-third) (omega arith) (omega arith) (omega arith)
 
 pub overflow_mul-value-2 : goal.overflow_mul-value-2
 overflow_mul-value-2 c = omega (arith, small (goal.at.overflow_mul-value-2 c).After-byte_at-third)

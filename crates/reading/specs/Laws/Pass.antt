@@ -1,6 +1,6 @@
 -- Opening and closing a reading pass: the answers.
 -- Assumes nothing.
-use Rattle.std.specs.Prelude.{ℕ, ◌+◌, ◌*◌, ◌≡◌, refl, Bool, true, false, ◌&&◌, not, List, T, ltb, length}
+use Rattle.std.specs.Prelude.{ℕ, ◌+◌, ◌*◌, ◌≡◌, refl, Bool, true, false, ◌&&◌, not, List, T, ltb, length, Ok, Err}
 use Rattle.std.proofs.Math.Path.{sym, ap}
 use Rattle.std.proofs.Common.{◌∙◌}
 use borrow.Author.Tests.{eq-eqb, ne_eqb}
@@ -24,9 +24,8 @@ use Rattle.state.proofs.Laws.Keeps.{head_known}
 use Rattle.state.proofs.Laws.Answers.{headed_refused, headed_passed}
 use Rattle.state.specs.declared.State.{State}
 use Rattle.state.specs.declared.Stage.TheVariants.{Built, Reading, Read}
-use Rattle.state.specs.declared.Taken.TheVariants.{On, Refused as Untaken}
 use Rattle.state.specs.declared.Closed.{Closed}
-use Rattle.state.specs.declared.Closed.TheVariants.{Read as Ended, False, Refused as Unclosed}
+use Rattle.state.specs.declared.Closed.TheVariants.{Read as Ended, False}
 use Rattle.testing.specs.Test.{head_but_links}
 use Rattle.testing.specs.Laws.Head.{Passed, head_is, head_passed}
 use Rattle.numbering.specs.Numbering.{numbered_in}
@@ -53,20 +52,20 @@ module _ (s : State) (f h : List ℕ) (b : Bool) (eb : b ≡ opens s.stage) (r :
   due : r ≡ head_refusal opens s f h
   due = head_is opens refl s f h r b eb er
 
-  pub open_refused : (r ≡ 0 → ⊥) → taken_told s (Untaken (record { number = r; place = 0 })) g h ≡ open_call s f h
+  pub open_refused : (r ≡ 0 → ⊥) → taken_told s (Err (record { number = r; place = 0 })) g h ≡ open_call s f h
   unfolding open_call
-  open_refused d = ap (λ k. taken_told s (Untaken (record { number = r; place = 0 })) k h) (eg ∙ sym (number_refused b s f h r er d)) ∙ headed_refused opens s f h _ r due d
+  open_refused d = ap (λ k. taken_told s (Err (record { number = r; place = 0 })) k h) (eg ∙ sym (number_refused b s f h r er d)) ∙ headed_refused opens s f h _ r due d
 
   module _ (z : r ≡ 0) where
     pub open_passed : Passed s f h
     open_passed = head_passed opens refl s f h r b eb er z
 
-    pub open_done : (f' : List ℕ) → f' ≡ wiped (2 * s.n) (stored * s.n) g → (x : State) → x ≡ opened s → taken_told s (On x) f' h ≡ open_call s f h
+    pub open_done : (f' : List ℕ) → f' ≡ wiped (2 * s.n) (stored * s.n) g → (x : State) → x ≡ opened s → taken_told s (Ok x) f' h ≡ open_call s f h
     unfolding open_call leaves moved
     open_done f' e x ex =
         let p = open_passed in
         let c = opened_cleared p g f' (eg ∙ open_numbered p b eb r er z) e in
-        ap (λ (y : State). taken_told s (On y) f' h) ex
+        ap (λ (y : State). taken_told s (Ok y) f' h) ex
         ∙ (λ i. record { answer = gives tt; state = moved_on s Reading s.passes 0 (count_left p Reading f' c i) false; frag = frag_left p Reading f' c i; held = held_left p Reading f' c i })
         ∙ headed_passed opens s f h _ r due z
 
@@ -93,7 +92,7 @@ end_false s t f h a = rw (a, pick_false)
 
 -- The answers of close.
 module _ (s : State) (f h : List ℕ) (r : ℕ) (e : r ≡ head_refusal is_reading s f h) where
-  pub close_refused : (r ≡ 0 → ⊥) → closed_told s (Unclosed (record { number = r; place = 0 })) f h ≡ close_in is_reading s f h
+  pub close_refused : (r ≡ 0 → ⊥) → closed_told s (Err (record { number = r; place = 0 })) f h ≡ close_in is_reading s f h
   unfolding close_in
   close_refused d = headed_refused is_reading s f h _ r e d
 
@@ -102,8 +101,8 @@ module _ (s : State) (f h : List ℕ) (r : ℕ) (e : r ≡ head_refusal is_readi
     unfolding close_in
     close_ends = rw (p.settled, pick_false) (headed_passed is_reading s f h _ r e z)
 
-    pub close_read : accepted s.n (tables_in s f h) ≡ true → (x : State) → x ≡ finished s → closed_told s (Ended x) f h ≡ close_in is_reading s f h
-    close_read a x ex = ap (λ (y : State). closed_told s (Ended y) f h) ex ∙ left ∙ end_read s (tables_in s f h) f h a ∙ close_ends
+    pub close_read : accepted s.n (tables_in s f h) ≡ true → (x : State) → x ≡ finished s → closed_told s (Ok (Ended x)) f h ≡ close_in is_reading s f h
+    close_read a x ex = ap (λ (y : State). closed_told s (Ok (Ended y)) f h) ex ∙ left ∙ end_read s (tables_in s f h) f h a ∙ close_ends
       where
         A : Agrees s (tables_in s f h)
         A = p.found.agrees
@@ -111,12 +110,12 @@ module _ (s : State) (f h : List ℕ) (r : ℕ) (e : r ≡ head_refusal is_readi
         found : f ≡ frag_of Read s.n (tables_in s f h) f
         found = frag_laid (finished s) f f h (tables_in s f h) (tables_state s (finished s) f h refl refl refl) p.bounds.frag_long (p.found.back ∙ behind_numbered s.n (tables_in s f h) s.stage (reading_numbered s f h r e z) ∙ sym (behind_numbered s.n (tables_in s f h) Read tt)) refl
 
-        left : closed_told s (Ended (finished s)) f h ≡ told read (moved_on s Read s.passes s.entries (length (tables_in s f h).held) (tables_in s f h).crossed) (frag_of Read s.n (tables_in s f h) f) (held_of s.n s.k (tables_in s f h) h)
+        left : closed_told s (Ok (Ended (finished s))) f h ≡ told read (moved_on s Read s.passes s.entries (length (tables_in s f h).held) (tables_in s f h).crossed) (frag_of Read s.n (tables_in s f h) f) (held_of s.n s.k (tables_in s f h) h)
         left = λ i. told read (moved_on s Read s.passes s.entries (A.as_many i) (A.as_crossed i)) (found i) (held_found s f h p.bounds p.found i)
 
     pub close_false : accepted s.n (tables_in s f h) ≡ false → (f' : List ℕ) → f' ≡ wiped (2 * s.n) ((stored + numbers) * s.n) f
-        → (x : Closed) → x ≡ False (failed s) → closed_told s x f' h ≡ close_in is_reading s f h
+        → (x : Closed) → x ≡ False (failed s) → closed_told s (Ok x) f' h ≡ close_in is_reading s f h
     close_false a f' b x ex =
         let c = unnumbered p (reading_numbered s f h r e z) f' b in
-        ap (λ y. closed_told s y f' h) ex ∙ (λ i. refused (moved_on s Built s.passes 0 (count_left p Built f' c i) false) (frag_left p Built f' c i) (held_left p Built f' c i) 9 0)
+        ap (λ (y : Closed). closed_told s (Ok y) f' h) ex ∙ (λ i. refused (moved_on s Built s.passes 0 (count_left p Built f' c i) false) (frag_left p Built f' c i) (held_left p Built f' c i) 9 0)
         ∙ end_false s (tables_in s f h) f h a ∙ close_ends

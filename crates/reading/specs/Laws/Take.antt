@@ -1,6 +1,6 @@
 -- The answers of take in Reading.
 -- Assumes nothing.
-use Rattle.std.specs.Prelude.{ℕ, ◌+◌, ◌≤◌, ◌≡◌, Bool, List}
+use Rattle.std.specs.Prelude.{ℕ, ◌+◌, ◌≤◌, ◌≡◌, Bool, List, Ok, Err}
 use Rattle.std.proofs.Math.Path.{refl, sym, ap}
 use Rattle.std.proofs.Common.{◌∙◌, arith}
 use Rattle.std.proofs.Math.ListN.{length}
@@ -23,7 +23,6 @@ use Rattle.state.proofs.Laws.Answers.{headed_refused, headed_passed}
 use Rattle.state.proofs.Laws.Behind.{behind_same}
 use Rattle.state.proofs.Laws.Lay.{frag_kept, held_laid}
 use Rattle.state.specs.declared.State.{State}
-use Rattle.state.specs.declared.Taken.TheVariants.{On, Refused as Untaken}
 use Rattle.reading.specs.Tell.{crossed_in, Reads, Given, links_of}
 use Rattle.testing.specs.Laws.Head.{Passed}
 use Rattle.reading.specs.Pass.{told}
@@ -43,13 +42,13 @@ pub scanned_few : {n entries : ℕ} {block : List ℕ} {count : ℕ} → Scanned
 scanned_few {n} {entries} {block} s = omega (arith, s.counted, accepted_count n entries block s.given.links s.given.are)
 
 module _ (s : State) (f h block : List ℕ) (r : ℕ) (e : r ≡ head_refusal is_reading s f h) where
-  pub take_refused : (r ≡ 0 → ⊥) → taken_told s (Untaken (record { number = r; place = 0 })) f h ≡ take_in is_reading s f h block
+  pub take_refused : (r ≡ 0 → ⊥) → taken_told s (Err (record { number = r; place = 0 })) f h ≡ take_in is_reading s f h block
   unfolding take_in
   take_refused d = headed_refused is_reading s f h _ r e d
 
   module _ (z : r ≡ 0) where
     pub take_bad : Passed s f h → (number place : ℕ) → refuses number place ≡ scan_block s.n s.entries block
-        → taken_told s (Untaken (record { number = number; place = place })) f h ≡ take_in is_reading s f h block
+        → taken_told s (Err (record { number = number; place = place })) f h ≡ take_in is_reading s f h block
     unfolding take_in taken
     take_bad p number place q = sym (ap (taken s f h) (scan_refuses s.n s.entries block (λ x. omega (arith, p.bounds)) p.bounds.fragments number place (sym q))) ∙ headed_passed is_reading s f h _ r e z
 
@@ -92,7 +91,7 @@ module _ (s : State) (f h block : List ℕ) (r : ℕ) (e : r ≡ head_refusal is
       held_left : h ≡ held_of s.n s.k (tables_in (told s crossed entries) f' h) h
       held_left = held_laid (told s crossed entries) f' h h _ refl p.found.agrees.held_room p.bounds.held_long p.found.unused refl
 
-      left : taken_told s (On (told s crossed entries)) f' h
+      left : taken_told s (Ok (told s crossed entries)) f' h
           ≡ leaves tt (moved s.stage s.passes (s.entries + length links) (tables_in (told s crossed entries) f' h) s) (tables_in (told s crossed entries) f' h) f h
       unfolding leaves moved tables_in
       left =
@@ -104,8 +103,8 @@ module _ (s : State) (f h block : List ℕ) (r : ℕ) (e : r ≡ head_refusal is
             held = held_left i;
           }
 
-      pub take_on : (x : State) → x ≡ told s crossed entries → taken_told s (On x) f' h ≡ take_in is_reading s f h block
+      pub take_on : (x : State) → x ≡ told s crossed entries → taken_told s (Ok x) f' h ≡ take_in is_reading s f h block
       unfolding take_in taken
       take_on x ex =
-          ap (λ (y : State). taken_told s (On y) f' h) ex ∙ left ∙ ap (λ (t : Tables). leaves tt (moved s.stage s.passes (s.entries + length links) t s) t f h) (sym told_is)
+          ap (λ (y : State). taken_told s (Ok y) f' h) ex ∙ left ∙ ap (λ (t : Tables). leaves tt (moved s.stage s.passes (s.entries + length links) t s) t f h) (sym told_is)
           ∙ sym (ap (taken s f h) q) ∙ headed_passed is_reading s f h _ r e z

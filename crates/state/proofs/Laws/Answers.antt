@@ -1,6 +1,6 @@
 -- What is told of an answer is told of no other.
 -- Assumes nothing.
-use Rattle.std.specs.Prelude.{ℕ, ◌≡◌, refl, Bool, true, false, List, length, T}
+use Rattle.std.specs.Prelude.{ℕ, ◌≡◌, refl, Bool, true, false, List, length, T, Ok, Err}
 use Rattle.std.proofs.Common.{sym, ap, ◌∙◌, subst, arith, ne_eqb}
 use Rattle.std.proofs.Math.Decide.{ℕ_discrete}
 use Rattle.base.specs.Pick.{pick, pick_all, tests}
@@ -12,18 +12,11 @@ use Rattle.state.specs.Layout.{tables_in}
 use Rattle.state.specs.Test.{is_building}
 use Rattle.state.specs.Call.{Left, refused, bounds_refusal, head_refusal, headed, leaves, moved}
 use Rattle.state.specs.Close.{Ending, end_building, end_reading, close_in}
-use Rattle.state.specs.Answers.{taken_told, closed_told, asked_told, judged_told}
+use Rattle.state.specs.Answers.{Asked, Ended, Judged, Taken, taken_told, closed_told, asked_told, judged_told}
 use Rattle.state.specs.declared.State.{State}
 use Rattle.state.specs.declared.Stage.{Stage}
 use Rattle.state.specs.declared.Stage.TheVariants.{Built}
-use Rattle.state.specs.declared.Taken.{Taken}
-use Rattle.state.specs.declared.Taken.TheVariants.{On, Refused as Untaken}
-use Rattle.state.specs.declared.Closed.{Closed}
-use Rattle.state.specs.declared.Closed.TheVariants.{More, Done, Read, False, Refused as Unclosed}
-use Rattle.state.specs.declared.Asked.{Asked}
-use Rattle.state.specs.declared.Asked.TheVariants.{Number, Refused as Unasked}
-use Rattle.state.specs.declared.Judged.{Judged}
-use Rattle.state.specs.declared.Judged.TheVariants.{Yes, No, Refused as Unjudged}
+use Rattle.state.specs.declared.Closed.TheVariants.{More, Done, Read, False}
 
 same_refusal : {A : Type 0} (r q : Refusal) → ◌≡◌ {A = Answer A} (refuses r.number r.place) (refuses q.number q.place) → r ≡ q
 same_refusal r q e =
@@ -33,36 +26,31 @@ same_refusal r q e =
 
 -- The questions.
 pub asked_once : (a b : Asked) → asked_told a ≡ asked_told b → a ≡ b
-asked_once (Number x) (Number y) e = cc
-asked_once (Number x) (Unasked q) e = cc
-asked_once (Unasked r) (Number y) e = cc
-asked_once (Unasked r) (Unasked q) e = ap Unasked (same_refusal r q e)
+asked_once (Ok x) (Ok y) e = cc
+asked_once (Ok x) (Err q) e = cc
+asked_once (Err r) (Ok y) e = cc
+asked_once (Err r) (Err q) e = ap Err (same_refusal r q e)
 
 pub judged_once : (a b : Judged) → judged_told a ≡ judged_told b → a ≡ b
-judged_once Yes Yes e = refl
-judged_once Yes No e = cc
-judged_once Yes (Unjudged q) e = cc
-judged_once No Yes e = cc
-judged_once No No e = refl
-judged_once No (Unjudged q) e = cc
-judged_once (Unjudged r) Yes e = cc
-judged_once (Unjudged r) No e = cc
-judged_once (Unjudged r) (Unjudged q) e = ap Unjudged (same_refusal r q e)
+judged_once (Ok x) (Ok y) e = cc
+judged_once (Ok x) (Err q) e = cc
+judged_once (Err r) (Ok y) e = cc
+judged_once (Err r) (Err q) e = ap Err (same_refusal r q e)
 
 -- Taking and opening.
 same_taken : (s : State) (a b : Taken) (f g h i : List ℕ) → (taken_told s a f h).answer ≡ (taken_told s b g i).answer → (taken_told s a f h).state ≡ (taken_told s b g i).state → a ≡ b
-same_taken s (On x) (On y) f g h i e q = ap On q
-same_taken s (On x) (Untaken r) f g h i e q = cc
-same_taken s (Untaken r) (On y) f g h i e q = cc
-same_taken s (Untaken r) (Untaken q) f g h i e z = ap Untaken (same_refusal r q e)
+same_taken s (Ok x) (Ok y) f g h i e q = ap Ok q
+same_taken s (Ok x) (Err r) f g h i e q = cc
+same_taken s (Err r) (Ok y) f g h i e q = cc
+same_taken s (Err r) (Err q) f g h i e z = ap Err (same_refusal r q e)
 
 taken_frag : (s : State) (a : Taken) (f h : List ℕ) → (taken_told s a f h).frag ≡ f
-taken_frag s (On x) f h = refl
-taken_frag s (Untaken r) f h = refl
+taken_frag s (Ok x) f h = refl
+taken_frag s (Err r) f h = refl
 
 taken_held : (s : State) (a : Taken) (f h : List ℕ) → (taken_told s a f h).held ≡ h
-taken_held s (On x) f h = refl
-taken_held s (Untaken r) f h = refl
+taken_held s (Ok x) f h = refl
+taken_held s (Err r) f h = refl
 
 pub taken_once : (s : State) (a b : Taken) (f g h i : List ℕ) → taken_told s a f h ≡ taken_told s b g i → (a ≡ b) × (f ≡ g) × (h ≡ i)
 taken_once s a b f g h i e = (
@@ -72,56 +60,56 @@ taken_once s a b f g h i e = (
 )
 
 -- Closing: refusal 9 is told by False alone, and not by a plain refusal that carries its number.
-pub nine : Closed → Type 0
-nine (More x) = ⊥
-nine (Done x) = ⊥
-nine (Read x) = ⊥
-nine (False x) = ⊥
-nine (Unclosed r) = r.number ≡ 9
+pub nine : Ended → Type 0
+nine (Ok (More x)) = ⊥
+nine (Ok (Done x)) = ⊥
+nine (Ok (Read x)) = ⊥
+nine (Ok (False x)) = ⊥
+nine (Err r) = r.number ≡ 9
 
-same_closed : (s : State) (a b : Closed) (f g h i : List ℕ) → (nine a → ⊥) → (nine b → ⊥) → (closed_told s a f h).answer ≡ (closed_told s b g i).answer → (closed_told s a f h).state ≡ (closed_told s b g i).state → a ≡ b
+same_closed : (s : State) (a b : Ended) (f g h i : List ℕ) → (nine a → ⊥) → (nine b → ⊥) → (closed_told s a f h).answer ≡ (closed_told s b g i).answer → (closed_told s a f h).state ≡ (closed_told s b g i).state → a ≡ b
 unfolding nine
-same_closed s (More x) (More y) f g h i m n e q = ap More q
-same_closed s (More x) (Done y) f g h i m n e q = cc
-same_closed s (More x) (Read y) f g h i m n e q = cc
-same_closed s (More x) (False y) f g h i m n e q = cc
-same_closed s (More x) (Unclosed r) f g h i m n e q = cc
-same_closed s (Done x) (More y) f g h i m n e q = cc
-same_closed s (Done x) (Done y) f g h i m n e q = ap Done q
-same_closed s (Done x) (Read y) f g h i m n e q = cc
-same_closed s (Done x) (False y) f g h i m n e q = cc
-same_closed s (Done x) (Unclosed r) f g h i m n e q = cc
-same_closed s (Read x) (More y) f g h i m n e q = cc
-same_closed s (Read x) (Done y) f g h i m n e q = cc
-same_closed s (Read x) (Read y) f g h i m n e q = ap Read q
-same_closed s (Read x) (False y) f g h i m n e q = cc
-same_closed s (Read x) (Unclosed r) f g h i m n e q = cc
-same_closed s (False x) (More y) f g h i m n e q = cc
-same_closed s (False x) (Done y) f g h i m n e q = cc
-same_closed s (False x) (Read y) f g h i m n e q = cc
-same_closed s (False x) (False y) f g h i m n e q = ap False q
-same_closed s (False x) (Unclosed r) f g h i m n e q = let z : 9 ≡ r.number = cc in absurd (n (sym z))
-same_closed s (Unclosed r) (More y) f g h i m n e q = cc
-same_closed s (Unclosed r) (Done y) f g h i m n e q = cc
-same_closed s (Unclosed r) (Read y) f g h i m n e q = cc
-same_closed s (Unclosed r) (False y) f g h i m n e q = let z : r.number ≡ 9 = cc in absurd (m z)
-same_closed s (Unclosed r) (Unclosed t) f g h i m n e q = ap Unclosed (same_refusal r t e)
+same_closed s (Ok (More x)) (Ok (More y)) f g h i m n e q = ap (λ x. Ok (More x)) q
+same_closed s (Ok (More x)) (Ok (Done y)) f g h i m n e q = cc
+same_closed s (Ok (More x)) (Ok (Read y)) f g h i m n e q = cc
+same_closed s (Ok (More x)) (Ok (False y)) f g h i m n e q = cc
+same_closed s (Ok (More x)) (Err r) f g h i m n e q = cc
+same_closed s (Ok (Done x)) (Ok (More y)) f g h i m n e q = cc
+same_closed s (Ok (Done x)) (Ok (Done y)) f g h i m n e q = ap (λ x. Ok (Done x)) q
+same_closed s (Ok (Done x)) (Ok (Read y)) f g h i m n e q = cc
+same_closed s (Ok (Done x)) (Ok (False y)) f g h i m n e q = cc
+same_closed s (Ok (Done x)) (Err r) f g h i m n e q = cc
+same_closed s (Ok (Read x)) (Ok (More y)) f g h i m n e q = cc
+same_closed s (Ok (Read x)) (Ok (Done y)) f g h i m n e q = cc
+same_closed s (Ok (Read x)) (Ok (Read y)) f g h i m n e q = ap (λ x. Ok (Read x)) q
+same_closed s (Ok (Read x)) (Ok (False y)) f g h i m n e q = cc
+same_closed s (Ok (Read x)) (Err r) f g h i m n e q = cc
+same_closed s (Ok (False x)) (Ok (More y)) f g h i m n e q = cc
+same_closed s (Ok (False x)) (Ok (Done y)) f g h i m n e q = cc
+same_closed s (Ok (False x)) (Ok (Read y)) f g h i m n e q = cc
+same_closed s (Ok (False x)) (Ok (False y)) f g h i m n e q = ap (λ x. Ok (False x)) q
+same_closed s (Ok (False x)) (Err r) f g h i m n e q = let z : 9 ≡ r.number = cc in absurd (n (sym z))
+same_closed s (Err r) (Ok (More y)) f g h i m n e q = cc
+same_closed s (Err r) (Ok (Done y)) f g h i m n e q = cc
+same_closed s (Err r) (Ok (Read y)) f g h i m n e q = cc
+same_closed s (Err r) (Ok (False y)) f g h i m n e q = let z : r.number ≡ 9 = cc in absurd (m z)
+same_closed s (Err r) (Err t) f g h i m n e q = ap Err (same_refusal r t e)
 
-closed_frag : (s : State) (a : Closed) (f h : List ℕ) → (closed_told s a f h).frag ≡ f
-closed_frag s (More x) f h = refl
-closed_frag s (Done x) f h = refl
-closed_frag s (Read x) f h = refl
-closed_frag s (False x) f h = refl
-closed_frag s (Unclosed r) f h = refl
+closed_frag : (s : State) (a : Ended) (f h : List ℕ) → (closed_told s a f h).frag ≡ f
+closed_frag s (Ok (More x)) f h = refl
+closed_frag s (Ok (Done x)) f h = refl
+closed_frag s (Ok (Read x)) f h = refl
+closed_frag s (Ok (False x)) f h = refl
+closed_frag s (Err r) f h = refl
 
-closed_held : (s : State) (a : Closed) (f h : List ℕ) → (closed_told s a f h).held ≡ h
-closed_held s (More x) f h = refl
-closed_held s (Done x) f h = refl
-closed_held s (Read x) f h = refl
-closed_held s (False x) f h = refl
-closed_held s (Unclosed r) f h = refl
+closed_held : (s : State) (a : Ended) (f h : List ℕ) → (closed_told s a f h).held ≡ h
+closed_held s (Ok (More x)) f h = refl
+closed_held s (Ok (Done x)) f h = refl
+closed_held s (Ok (Read x)) f h = refl
+closed_held s (Ok (False x)) f h = refl
+closed_held s (Err r) f h = refl
 
-pub closed_once : (s : State) (a b : Closed) (f g h i : List ℕ) → (nine a → ⊥) → (nine b → ⊥) → closed_told s a f h ≡ closed_told s b g i → (a ≡ b) × (f ≡ g) × (h ≡ i)
+pub closed_once : (s : State) (a b : Ended) (f g h i : List ℕ) → (nine a → ⊥) → (nine b → ⊥) → closed_told s a f h ≡ closed_told s b g i → (a ≡ b) × (f ≡ g) × (h ≡ i)
 closed_once s a b f g h i m n e = (
   same_closed s a b f g h i m n (ap (λ (x : Left Ending). x.answer) e) (ap (λ (x : Left Ending). x.state) e),
   sym (closed_frag s a f h) ∙ ap (λ (x : Left Ending). x.frag) e ∙ closed_frag s b g i,
@@ -174,13 +162,13 @@ head_allows allowed s f h z = elim (ℕ_discrete (bounds_refusal s.n s.k (length
 ]
 
 -- So a plain refusal that meets close's promise has another number, where the call is not allowed in Built.
-pub close_other : (allowed : Stage → Bool) → allowed Built ≡ false → (s : State) (f h f' h' : List ℕ) (a : Closed) → closed_told s a f' h' ≡ close_in allowed s f h → nine a → ⊥
+pub close_other : (allowed : Stage → Bool) → allowed Built ≡ false → (s : State) (f h f' h' : List ℕ) (a : Ended) → closed_told s a f' h' ≡ close_in allowed s f h → nine a → ⊥
 unfolding nine close_in Back Other
-close_other allowed b s f h f' h' (More x) e n = n
-close_other allowed b s f h f' h' (Done x) e n = n
-close_other allowed b s f h f' h' (Read x) e n = n
-close_other allowed b s f h f' h' (False x) e n = n
-close_other allowed b s f h f' h' (Unclosed r) e n = elim (ℕ_discrete (head_refusal allowed s f h) 0) [
+close_other allowed b s f h f' h' (Ok (More x)) e n = n
+close_other allowed b s f h f' h' (Ok (Done x)) e n = n
+close_other allowed b s f h f' h' (Ok (Read x)) e n = n
+close_other allowed b s f h f' h' (Ok (False x)) e n = n
+close_other allowed b s f h f' h' (Err r) e n = elim (ℕ_discrete (head_refusal allowed s f h) 0) [
   | no d ↦
       let q = ap (λ (x : Left Ending). x.answer) (e ∙ sym (headed_refused allowed s f h _ _ refl d)) in
       let g : r.number ≡ head_refusal allowed s f h = cc in

@@ -1,6 +1,6 @@
 -- The answers of start, and what a cleared table holds.
 -- Assumes nothing.
-use Rattle.std.specs.Prelude.{ℕ, ◌-◌, ◌*◌, ◌≤◌, ◌<◌, ◌≡◌, refl, List, ◌++◌, length, drop, replicate}
+use Rattle.std.specs.Prelude.{ℕ, ◌-◌, ◌*◌, ◌≤◌, ◌<◌, ◌≡◌, refl, List, ◌++◌, length, drop, replicate, Ok, Err}
 use Rattle.std.proofs.Common.{sym, ap, ◌∙◌, arith}
 use Rattle.std.proofs.lemmas.List.{length-replicate}
 use Rattle.base.specs.Pick.{tests}
@@ -12,7 +12,7 @@ use Rattle.rules.proofs.Laws.Search.{every_at}
 use Rattle.state.specs.Layout.{wiped, words, tables_in, frag_of, held_of}
 use Rattle.state.specs.Call.{Begun, bounds_refusal}
 use Rattle.state.specs.Start.{started, start_call}
-use Rattle.state.specs.Answers.{begun_told}
+use Rattle.state.specs.Answers.{Started, begun_told}
 use Rattle.state.proofs.Laws.Lists.{zeros}
 use Rattle.state.proofs.Laws.Clear.{wiped_is}
 use Rattle.state.proofs.Laws.Behind.{behind_plain}
@@ -21,8 +21,6 @@ use Rattle.state.proofs.Laws.Sound.{Agrees}
 use Rattle.state.proofs.Laws.Keeps.{rested_agrees}
 use Rattle.state.specs.declared.State.{State}
 use Rattle.state.specs.declared.Stage.TheVariants.{Building}
-use Rattle.state.specs.declared.Started.{Started}
-use Rattle.state.specs.declared.Started.TheVariants.{Ready, Refused}
 
 -- Cleared from the first word on.
 first_wiped : (m : ℕ) (l : List ℕ) → m ≤ length l → wiped 0 m l ≡ replicate m 0 ++ drop m l
@@ -43,11 +41,11 @@ held_fresh n k h l = let e : k * n ≡ k * n - 0 = omega arith in first_wiped (k
 
 -- The two answers of a call that begins a state.
 module _ (n k : ℕ) (f h : List ℕ) where
-  pub start_refused : (r : ℕ) → r ≡ bounds_refusal n k (length f) (length h) → (r ≡ 0 → ⊥) → begun_told (Refused (record { number = r; place = 0 })) f h ≡ start_call n k f h
+  pub start_refused : (r : ℕ) → r ≡ bounds_refusal n k (length f) (length h) → (r ≡ 0 → ⊥) → begun_told (Err (record { number = r; place = 0 })) f h ≡ start_call n k f h
   unfolding start_call
   start_refused r e p = rw (← e) (simp tests)
 
-  pub start_ready : bounds_refusal n k (length f) (length h) ≡ 0 → (s : State) → s ≡ started n k → (f' h' : List ℕ) → f' ≡ frag_of Building n (fresh n) f → h' ≡ held_of n k (fresh n) h → begun_told (Ready s) f' h' ≡ start_call n k f h
+  pub start_ready : bounds_refusal n k (length f) (length h) ≡ 0 → (s : State) → s ≡ started n k → (f' h' : List ℕ) → f' ≡ frag_of Building n (fresh n) f → h' ≡ held_of n k (fresh n) h → begun_told (Ok s) f' h' ≡ start_call n k f h
   unfolding start_call
   start_ready e s a f' h' p q = rw (e, a, p, q) (simp tests)
 
@@ -70,21 +68,21 @@ fresh_laid n k f h =
 
 -- An answer is decided by what it tells.
 same_answer : (a b : Started) (f g h i : List ℕ) → (begun_told a f h).answer ≡ (begun_told b g i).answer → a ≡ b
-same_answer (Ready s) (Ready t) f g h i e = cc
-same_answer (Ready s) (Refused r) f g h i e = cc
-same_answer (Refused r) (Ready s) f g h i e = cc
-same_answer (Refused r) (Refused q) f g h i e =
+same_answer (Ok s) (Ok t) f g h i e = cc
+same_answer (Ok s) (Err r) f g h i e = cc
+same_answer (Err r) (Ok s) f g h i e = cc
+same_answer (Err r) (Err q) f g h i e =
     let p : r.number ≡ q.number = cc in
     let l : r.place ≡ q.place = cc in
-    λ j. Refused (record { number = p j; place = l j })
+    λ j. Err (record { number = p j; place = l j })
 
 same_frag : (a : Started) (f h : List ℕ) → (begun_told a f h).frag ≡ f
-same_frag (Ready s) f h = refl
-same_frag (Refused r) f h = refl
+same_frag (Ok s) f h = refl
+same_frag (Err r) f h = refl
 
 same_held : (a : Started) (f h : List ℕ) → (begun_told a f h).held ≡ h
-same_held (Ready s) f h = refl
-same_held (Refused r) f h = refl
+same_held (Ok s) f h = refl
+same_held (Err r) f h = refl
 
 pub told_once : (a b : Started) (f g h i : List ℕ) → begun_told a f h ≡ begun_told b g i → (a ≡ b) × (f ≡ g) × (h ≡ i)
 told_once a b f g h i e = (

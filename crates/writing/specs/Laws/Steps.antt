@@ -1,6 +1,6 @@
 -- The list writer's steps: the size of the list word by word, and the bytes put number by number.
 -- Assumes nothing.
-use Rattle.std.specs.Prelude.{true, false, ◌≡◌, take}
+use Rattle.std.specs.Prelude.{true, false, Result, Ok, ◌≡◌, take}
 use mathlib.Core.List.{List, [], ◌∷◌, ◌++◌, append_assoc}
 use Rattle.std.proofs.Math.Path.{refl, sym, ap}
 use Rattle.std.proofs.Common.{◌∙◌, add_assoc, add-one, drop_of_length-le, take_at, drop_at, drop-drop, length-take-le}
@@ -14,6 +14,9 @@ use Rattle.base.specs.Pick.{pick_true, pick_false, tests}
 use Rattle.base.specs.Answer.{Answer, gives, refuses}
 use Rattle.base.specs.Link.{Link}
 use Rattle.numbers.specs.Number.{groups_most, value_most, written_number, put, width_of, Wrote, write_up_to, write_number}
+use Rattle.numbers.specs.Answers.{wrote}
+use Rattle.numbers.specs.declared.Why.{Why}
+use Rattle.numbers.proofs.Unique.{wrote_once}
 use Rattle.numbers.proofs.Laws.Writing.{put_none, length_put, written_few, width_few, width_is}
 use Rattle.lists.specs.List.{fragments_most, and_then, before, no_size, sized, bad_ends, written_links}
 use Rattle.lists.specs.Words.{Sound}
@@ -117,6 +120,12 @@ pub stored : {value at : ℕ} {buffer : List ℕ} → Fitting value at (length b
 stored {value} {at} {buffer} f answer after r e z =
     let y = e ∙ write_fitting value buffer at f.most f.room in
     record { end = z ∙ ap (λ (w : Wrote). answer_or w.answer at) y; bytes = ap (λ (w : Wrote). w.buffer) y }
+
+-- So the writer gives where it ends.
+pub stored_whole : (value at : ℕ) (buffer : List ℕ) → Fitting value at (length buffer)
+    → (w : Result ℕ Why) (after : List ℕ) → wrote w after ≡ write_number value buffer at
+    → (w ≡ Ok (at + length (written_number value))) × (after ≡ put buffer at (written_number value))
+stored_whole value at buffer f w after e = wrote_once w _ after _ (e ∙ write_fitting value buffer at f.most f.room)
 
 -- Bytes put behind bytes put.
 put_put : (s : List ℕ) (at : ℕ) (x y : List ℕ) → at + length x ≤ length s → put (put s at x) (at + length x) y ≡ put s at (x ++ y)

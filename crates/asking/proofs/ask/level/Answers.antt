@@ -1,23 +1,23 @@
--- `asking::ask::level` meets its contract: refused, far, or one less than the word.
+-- `asking::ask::level` meets its contract: refused, or one less than the word.
 -- Assumes nothing.
 use mathlib.Core.Bool.{not}
-use mathlib.Core.Path.{refl, ap, ◌∙◌}
-use native.Mathlib.Omega.{arith}
+use mathlib.Core.Path.{refl, sym, ap, ◌∙◌}
+use Rattle.std.proofs.lemmas.Result.{err_from_is_err_and}
+use Rattle.numbers.specs.Answers.{due}
+use Rattle.numbers.proofs.Unique.{number_some}
 use Rattle.base.specs.Answer.{gives}
 use Rattle.state.specs.Ask.{asks, level_call}
-use Rattle.testing.specs.Laws.Head.{head_is}
-use Rattle.asking.specs.Laws.Asked.{one_refused, one_far, one_answer, same_lev}
+use Rattle.asking.specs.Laws.Asked.{ask_refused, ask_answer, same_lev}
 use Rattle.asking.proofs.ask.level.Goals as goal
 
-pub returns-then-refusal-ne0 : goal.returns-then-refusal-ne0
+pub returns-in_err-asked : goal.returns-in_err-asked
 unfolding level_call
-returns-then-refusal-ne0 c = one_refused asks _ _ _ _ (head_is asks refl _ _ _ _ _ (ap not c.is_building.ensures) c.head-refusal.ensures) _ _ (λ e. omega arith)
-
-pub returns-then-n-v : goal.returns-then-n-v
-unfolding level_call
-returns-then-n-v c = one_far asks _ _ _ _ (head_is asks refl _ _ _ _ _ (ap not c.is_building.ensures) c.head-refusal.ensures) _ _ (omega arith) (omega arith)
+returns-in_err-asked c =
+    let p = err_from_is_err_and c.from_residual.result c.from_residual.ensures.1 in
+    rw (p.1, p.2.0, p.2.1) (ask_refused asks refl _ _ _ _ (ap not c.is_building.ensures) _ _ _ (sym (ap due c.in_err-asked.was) ∙ c.asked.ensures) (number_some _))
 
 pub returns : goal.returns
 unfolding level_call
 returns c =
-    let a = c.args in ap gives (c.level_of.ensures ∙ same_lev a.s _ _ a.v) ∙ one_answer asks _ _ _ _ (head_is asks refl _ _ _ _ _ (ap not c.is_building.ensures) c.head-refusal.ensures) _ _ (omega arith) (omega arith)
+    let a = c.args in
+    ap gives (c.level_of.ensures ∙ same_lev a.s _ _ a.v) ∙ ask_answer asks refl _ _ _ _ (ap not c.is_building.ensures) _ _ _ c.asked.ensures (ap due c.in_ok-asked.was)

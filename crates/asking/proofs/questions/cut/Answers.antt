@@ -1,29 +1,27 @@
--- `asking::questions::cut` meets its contract: refused, far, or judged by its children.
+-- `asking::questions::cut` meets its contract: refused, or judged by its children.
 -- Assumes nothing.
-use mathlib.Core.Path.{refl, ap, ◌∙◌}
-use native.Mathlib.Omega.{arith}
+use mathlib.Core.Path.{refl, sym, ap, ◌∙◌}
+use Rattle.std.proofs.lemmas.Result.{err_from_is_err_and}
+use Rattle.numbers.specs.Answers.{due}
+use Rattle.numbers.proofs.Unique.{number_some}
 use Rattle.base.specs.Answer.{gives}
 use Rattle.state.specs.Ask.{cut_call}
 use Rattle.state.specs.Test.{is_read}
-use Rattle.testing.specs.Laws.Head.{head_is}
-use Rattle.asking.specs.Laws.Asked.{head_numbered, one_refused, one_far, one_answer, same_cut}
+use Rattle.asking.specs.Laws.Asked.{head_numbered, ask_passed, ask_refused, ask_answer, same_cut}
 use Rattle.asking.proofs.questions.cut.Goals as goal
 
-pub returns-then-refusal-ne0 : goal.returns-then-refusal-ne0
+pub returns-in_err-asked : goal.returns-in_err-asked
 unfolding cut_call
-returns-then-refusal-ne0 c = c.not_judged.ensures ∙ one_refused is_read _ _ _ _ (head_is is_read refl _ _ _ _ _ c.is_read.ensures c.head-refusal.ensures) _ _ (λ e. omega arith)
-
-pub returns-then-n-v : goal.returns-then-n-v
-unfolding cut_call
-returns-then-n-v c =
-    c.not_judged-then-n-v.ensures ∙ one_far is_read _ _ _ _ (head_is is_read refl _ _ _ _ _ c.is_read.ensures c.head-refusal.ensures) _ _ (omega arith) (omega arith)
+returns-in_err-asked c =
+    let p = err_from_is_err_and c.from_residual.result c.from_residual.ensures.1 in
+    rw (p.1, p.2.0, p.2.1) (ask_refused is_read refl _ _ _ _ c.is_read.ensures _ _ _ (sym (ap due c.in_err-asked.was) ∙ c.asked.ensures) (number_some _))
 
 pub is_cut-requires : goal.is_cut-requires
-is_cut-requires c = (head_numbered _ _ _ _ _ c.is_read.ensures c.head-refusal.ensures (omega arith), omega arith)
+is_cut-requires c =
+    let p = ask_passed _ _ _ _ _ (sym c.asked.ensures ∙ ap due c.in_ok-asked.was) in (head_numbered _ _ _ _ _ c.is_read.ensures refl p.0, p.1)
 
 pub returns : goal.returns
 unfolding cut_call
 returns c =
     let a = c.args in
-    c.judged.ensures ∙ ap gives (c.is_cut.ensures ∙ same_cut a.s _ _ a.v)
-    ∙ one_answer is_read _ _ _ _ (head_is is_read refl _ _ _ _ _ c.is_read.ensures c.head-refusal.ensures) _ _ (omega arith) (omega arith)
+    ap gives (c.is_cut.ensures ∙ same_cut a.s _ _ a.v) ∙ ask_answer is_read refl _ _ _ _ c.is_read.ensures _ _ _ c.asked.ensures (ap due c.in_ok-asked.was)

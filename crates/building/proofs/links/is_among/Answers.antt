@@ -1,12 +1,9 @@
 -- `building::links::is_among` meets its contract: what is left to look at gives the answer.
 -- Assumes nothing.
-use mathlib.Core.Path.{refl, sym, ◌∙◌}
+use mathlib.Core.Path.{sym, ◌∙◌}
 use native.Mathlib.Omega.{arith}
 use Rattle.building.specs.Laws.Among.{among_more, among_hit, among_none}
 use Rattle.building.proofs.links.is_among.Goals as goal
-
-pub loop-i-init : goal.loop-i-init
-loop-i-init c = refl
 
 pub returns-then-is_same : goal.returns-then-is_same
 returns-then-is_same c =

@@ -1,11 +1,7 @@
 -- `building::noted::note_held` meets its contract: the word of the link is marked.
 -- Assumes nothing.
-use native.Mathlib.Omega.{arith}
 use Rattle.building.specs.Laws.Noted.{word_flaggable, word_flags}
 use Rattle.building.proofs.noted.note_held.Goals as goal
-
-pub word_of-requires : goal.word_of-requires
-word_of-requires c = omega (arith, c.requires.few_fragments, c.requires.ends)
 
 pub set_flag-requires : goal.set_flag-requires
 set_flag-requires c = word_flaggable _ c.word_of.ensures c.requires

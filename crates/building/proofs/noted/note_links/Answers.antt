@@ -9,34 +9,16 @@ use Rattle.building.proofs.noted.note_links.Goals as goal
 pub loop-at-init : goal.loop-at-init
 loop-at-init c = (c.requires.0, apart_none)
 
-pub overflow_mul-n : goal.overflow_mul-n
-overflow_mul-n c = omega (arith, c.loop-at.invariant.0.few_fragments)
-
-pub returns-then-n-c : goal.returns-then-n-c
-returns-then-n-c c = c.loop-at.invariant
-
-pub overflow_cast-n : goal.overflow_cast-n
-overflow_cast-n c = omega (arith, c.loop-at.invariant.0.few_fragments)
-
 pub note_one-c-requires : goal.note_one-c-requires
-note_one-c-requires c = (c.loop-at.invariant.0, told_ends _ _ _ _ _ _ _ (sym c.link_at.ensures ∙ ap told_link c.in-Ends.is))
-
-pub overflow_add-c : goal.overflow_add-c
-overflow_add-c c = omega (arith, c.loop-at.invariant.0.few_fragments, c.note_one-c.ensures.2, c.if-n-c.false)
+note_one-c-requires c = (c.loop-at.invariant.0, told_ends _ _ _ _ _ _ _ (sym c.link_at.ensures ∙ ap told_link c.in-Ok.is))
 
 pub overflow_add-told : goal.overflow_add-told
-overflow_add-told c = omega (arith, told_link_lem _ _ _ _ _ _ _ (sym c.link_at.ensures ∙ ap told_link c.in-Ends.is))
+overflow_add-told c = omega (arith, told_link_lem _ _ _ _ _ _ _ (sym c.link_at.ensures ∙ ap told_link c.in-Ok.is))
 
 pub loop-at-smaller : goal.loop-at-smaller
-loop-at-smaller c = omega (arith, c.loop-at-test.true, told_link_lem _ _ _ _ _ _ _ (sym c.link_at.ensures ∙ ap told_link c.in-Ends.is))
+loop-at-smaller c = omega (arith, c.loop-at-test.true, told_link_lem _ _ _ _ _ _ _ (sym c.link_at.ensures ∙ ap told_link c.in-Ok.is))
 
 pub loop-at-preserved : goal.loop-at-preserved
 loop-at-preserved c =
     let o = c.note_one-c.ensures in
     (o.0, apart_then c.loop-at.invariant.1 o.1)
-
-pub returns-in-Refused : goal.returns-in-Refused
-returns-in-Refused c = c.loop-at.invariant
-
-pub returns : goal.returns
-returns c = c.loop-at.invariant

@@ -2,14 +2,7 @@
 -- Assumes nothing.
 use native.Mathlib.Omega.{arith}
 use Rattle.building.specs.Laws.Telling.{notable, build_skip, build_note_second, build_note_first, build_between, build_hold}
-use borrow.Author.Rules.{rules}
 use Rattle.building.proofs.tell.build_link.Goals as goal
-
-pub rank_at-requires : goal.rank_at-requires
-rank_at-requires c = search rules
-
-pub rank_at-requires-then-rank_at-ne0 : goal.rank_at-requires-then-rank_at-ne0
-rank_at-requires-then-rank_at-ne0 c = search rules
 
 pub returns-then-rank_at-ne0-2 : goal.returns-then-rank_at-ne0-2
 returns-then-rank_at-ne0-2 c =
@@ -25,9 +18,6 @@ pub returns-then-rank_at-ne0 : goal.returns-then-rank_at-ne0
 returns-then-rank_at-ne0 c =
     let p = c.requires in
     build_note_second p.0 p.1 _ _ c.rank_at.ensures.says c.rank_at-then-rank_at-ne0.ensures.says c.if-rank_at-ne0.true (omega arith) _ c.note_link.ensures
-
-pub rank_at-requires-2 : goal.rank_at-requires-2
-rank_at-requires-2 c = search rules
 
 pub note_link-requires-then-rank_at-ne0-3 : goal.note_link-requires-then-rank_at-ne0-3
 note_link-requires-then-rank_at-ne0-3 c =

@@ -1,6 +1,5 @@
 -- `building::tell::tell_links` meets its contract: what is left of the block leads to what the whole block leaves.
 -- Assumes nothing.
-use borrow.Author.Rules.{rules}
 use native.Mathlib.Omega.{arith}
 use mathlib.Core.Path.{sym, ap, ◌∙◌}
 use Rattle.lists.specs.Answers.{told_link}
@@ -12,34 +11,22 @@ loop-at-init c =
     let p = c.requires in
     midway_starts p.0 p.1
 
-pub overflow_cast-n : goal.overflow_cast-n
-overflow_cast-n c = omega (arith, c.loop-at.invariant.leaves.telling.few_fragments)
-
-pub link_at-requires : goal.link_at-requires
-link_at-requires c = search rules
-
-pub overflow_cast-a : goal.overflow_cast-a
-overflow_cast-a c = search rules
-
-pub overflow_cast-b : goal.overflow_cast-b
-overflow_cast-b c = search rules
-
 pub build_link-count-requires : goal.build_link-count-requires
 build_link-count-requires c =
     let m = c.loop-at.invariant in
-    (m.leaves.telling, midway_ends m _ _ _ (sym c.link_at.ensures ∙ ap told_link c.in-Ends.is))
+    (m.leaves.telling, midway_ends m _ _ _ (sym c.link_at.ensures ∙ ap told_link c.in-Ok.is))
 
 pub overflow_add-told : goal.overflow_add-told
-overflow_add-told c = omega (arith, midway_link c.loop-at.invariant _ _ _ (sym c.link_at.ensures ∙ ap told_link c.in-Ends.is))
+overflow_add-told c = omega (arith, midway_link c.loop-at.invariant _ _ _ (sym c.link_at.ensures ∙ ap told_link c.in-Ok.is))
 
 pub loop-at-smaller : goal.loop-at-smaller
-loop-at-smaller c = omega (arith, midway_link c.loop-at.invariant _ _ _ (sym c.link_at.ensures ∙ ap told_link c.in-Ends.is))
+loop-at-smaller c = omega (arith, midway_link c.loop-at.invariant _ _ _ (sym c.link_at.ensures ∙ ap told_link c.in-Ok.is))
 
 pub loop-at-preserved : goal.loop-at-preserved
-loop-at-preserved c = midway_next c.loop-at.invariant _ _ _ (sym c.link_at.ensures ∙ ap told_link c.in-Ends.is) c.build_link-count.ensures
+loop-at-preserved c = midway_next c.loop-at.invariant _ _ _ (sym c.link_at.ensures ∙ ap told_link c.in-Ok.is) c.build_link-count.ensures
 
-pub returns-in-Refused : goal.returns-in-Refused
-returns-in-Refused c = absurd (midway_bad c.loop-at.invariant _ _ c.loop-at-test.true (sym c.link_at.ensures ∙ ap told_link c.in-Refused.is))
+pub returns-in-Err : goal.returns-in-Err
+returns-in-Err c = absurd (midway_bad c.loop-at.invariant _ _ c.loop-at-test.true (sym c.link_at.ensures ∙ ap told_link c.in-Err.is))
 
 pub returns : goal.returns
 returns c = midway_end c.loop-at.invariant (omega arith)

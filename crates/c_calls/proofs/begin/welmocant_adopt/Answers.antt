@@ -16,4 +16,4 @@ pub returns : goal.returns
 unfolding c_adopt
 returns c =
     let a = c.args in
-    begins_long _ _ _ _ c.wide-2.ensures c.wide-3.ensures a.state.now a.frag.now a.held.now (λ (n k : ℕ). adopt_call n k a.parents.now a.frag.now a.held.now) (omega arith) _ _ c.adopt-started.result c.adopt-started.ensures _ c.end_begin.ensures
+    begins_long _ _ _ _ c.wide-2.ensures c.wide-3.ensures a.state.now a.frag.now a.held.now (λ (n k : ℕ). adopt_call n k a.parents.now a.frag.now a.held.now) (omega arith) _ _ c.adopt-started.result c.adopt-started.ensures _ c.end_state.ensures.begun

@@ -16,4 +16,4 @@ pub returns : goal.returns
 unfolding c_start
 returns c =
     let a = c.args in
-    begins_long _ _ _ _ c.wide-2.ensures c.wide-3.ensures a.state.now a.frag.now a.held.now (λ (n k : ℕ). start_call n k a.frag.now a.held.now) (omega arith) _ _ c.start-started.result c.start-started.ensures _ c.end_begin.ensures
+    begins_long _ _ _ _ c.wide-2.ensures c.wide-3.ensures a.state.now a.frag.now a.held.now (λ (n k : ℕ). start_call n k a.frag.now a.held.now) (omega arith) _ _ c.start-started.result c.start-started.ensures _ c.end_state.ensures.begun

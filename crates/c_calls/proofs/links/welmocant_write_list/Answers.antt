@@ -3,8 +3,8 @@
 use Rattle.c_calls.specs.Laws.Lists.{write_end, write_refused}
 use Rattle.c_calls.proofs.links.welmocant_write_list.Goals as goal
 
-pub returns-in-End : goal.returns-in-End
-returns-in-End c = write_end _ _ c.args.buffer.now _ _ c.write_list.ensures _ c.in-End.is
+pub returns-in-Ok : goal.returns-in-Ok
+returns-in-Ok c = write_end _ _ c.args.buffer.now _ _ c.write_list.ensures _ c.in-Ok.is
 
-pub returns-in-Refused : goal.returns-in-Refused
-returns-in-Refused c = write_refused _ _ c.args.buffer.now _ _ c.write_list.ensures _ c.in-Refused.is
+pub returns-in-Err : goal.returns-in-Err
+returns-in-Err c = rw c.number.ensures (write_refused _ _ c.args.buffer.now _ _ c.write_list.ensures _ c.in-Err.is)

@@ -15,4 +15,4 @@ pub returns : goal.returns
 unfolding c_open
 returns c =
     let a = c.args in
-    open_long a.state.now a.frag.now a.held.now (λ (s : State). open_call s a.frag.now a.held.now) _ _ c.unpack-given.ensures (omega arith) _ _ c.open_reading-taken.result c.open_reading-taken.ensures _ c.end_open.ensures
+    open_long a.state.now a.frag.now a.held.now (λ (s : State). open_call s a.frag.now a.held.now) _ _ c.unpack-given.ensures (omega arith) _ _ c.open_reading-taken.result c.open_reading-taken.ensures _ c.end_state.ensures.opened

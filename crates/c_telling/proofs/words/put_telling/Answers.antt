@@ -4,4 +4,4 @@ use Rattle.c_telling.specs.Laws.Steps.{telling_stored}
 use Rattle.c_telling.proofs.words.put_telling.Goals as goal
 
 pub returns : goal.returns
-returns c = let a = c.args in telling_stored a.t a.words.now _ _ _ c.step_word.ensures c.pack.ensures c.put_rest.ensures
+returns c = let a = c.args in telling_stored a.t a.words.now _ _ _ c.from.ensures c.pack.ensures c.put_rest.ensures

@@ -28,4 +28,4 @@ bounds-words-6 c = simp length-set (omega arith)
 
 pub returns : goal.returns
 returns c =
-    let a = c.args in state_stored a.s a.words.now c.word_for.result c.word_for-2.result c.stage_word.result c.word_for-3.result c.word_for-4.result c.word_for-5.result c.mark_word.result (omega arith) c.word_for.ensures c.word_for-2.ensures c.stage_word.ensures c.word_for-3.ensures c.word_for-4.ensures c.word_for-5.ensures c.mark_word.ensures
+    let a = c.args in state_stored a.s a.words.now c.word_for.result c.word_for-2.result c.from.result c.word_for-3.result c.word_for-4.result c.word_for-5.result c.from-2.result (omega arith) c.word_for.ensures c.word_for-2.ensures c.from.ensures c.word_for-3.ensures c.word_for-4.ensures c.word_for-5.ensures c.from-2.ensures

@@ -1,21 +1,13 @@
--- `closing::walk::place_of` meets its contract: the place stands in the half that is left.
+-- `closing::walk::place_of` meets its contract: the neighbours after the first, up to the place, are not above v.
 -- Assumes nothing.
-use Rattle.closing.specs.Laws.Seeking.{halved_none, halved_low, halved_high, halved_found}
-use native.Mathlib.Omega.{arith}
+use Rattle.std.proofs.Common.{leb, ◌%◌, rules}
+use Rattle.std.proofs.lemmas.List.Sorted.{IsPartitionPoint-from_clause, IsPartitionedBy-leb}
+use Rattle.state.specs.Layout.{radix}
+use Rattle.closing.specs.Laws.Seeking.{others_rise, others_passed}
 use Rattle.closing.proofs.walk.place_of.Goals as goal
 
-pub loop-low-init : goal.loop-low-init
-loop-low-init c = halved_none c.requires
-
-pub loop-low-preserved-then-v-smaller_at : goal.loop-low-preserved-then-v-smaller_at
-loop-low-preserved-then-v-smaller_at c =
-    let l = c.loop-low in
-    halved_high c.requires l.invariant _ (omega arith) (omega arith) (omega (arith, c.smaller_at.ensures))
-
-pub loop-low-preserved : goal.loop-low-preserved
-loop-low-preserved c =
-    let l = c.loop-low in
-    halved_low c.requires l.invariant _ (omega arith) (omega arith) (omega (arith, c.smaller_at.ensures))
-
 pub returns : goal.returns
-returns c = halved_found c.requires c.loop-low.invariant (omega arith)
+returns c =
+    let parted = IsPartitionedBy-leb (λ w. w % radix) _ c.args.v (others_rise c.requires) in
+    let point = IsPartitionPoint-from_clause (λ w. leb (w % radix) c.args.v) _ _ c.partition_point.ensures.partitioned parted (λ a r q k. search rules) in
+    others_passed c.requires _ point c.partition_point.ensures.bound

@@ -14,17 +14,17 @@ overflow_add-classes c = omega (arith, c.requires.few_fragments)
 pub overflow_add-classes-2 : goal.overflow_add-classes-2
 overflow_add-classes-2 c = omega (arith, few_classes c.requires (8 * c.args.n + 1))
 
-pub loop-c-init : goal.loop-c-init
-loop-c-init c = (omega arith, few_classes c.requires (8 * c.args.n + 1), sifted_none c.requires)
+pub loop-number-init : goal.loop-number-init
+loop-number-init c = (omega arith, few_classes c.requires (8 * c.args.n + 1), sifted_none c.requires)
 
 pub class_differs-requires : goal.class_differs-requires
-class_differs-requires c = (c.loop-c.invariant.2.comparable, c.loop-c.invariant.1)
+class_differs-requires c = (c.loop-number.invariant.2.comparable, c.loop-number.invariant.1)
 
 pub returns-then-not-class_differs : goal.returns-then-not-class_differs
-returns-then-not-class_differs c = sifted_twice c.loop-c.invariant.2 c.class_differs.ensures (c.if-not-class_differs.true)
+returns-then-not-class_differs c = sifted_twice c.loop-number.invariant.2 c.class_differs.ensures (c.if-not-class_differs.true)
 
-pub loop-c-preserved : goal.loop-c-preserved
-loop-c-preserved c = (c.loop-c.invariant.0, c.loop-c.invariant.1, sifted_more c.loop-c.invariant.2 c.class_differs.ensures (c.if-not-class_differs.false))
+pub loop-number-preserved : goal.loop-number-preserved
+loop-number-preserved c = (c.loop-number.invariant.0, c.loop-number.invariant.1, sifted_more c.loop-number.invariant.2 c.class_differs.ensures (c.if-not-class_differs.false))
 
 pub returns : goal.returns
-returns c = sifted_all c.loop-c.invariant.2 c.loop-c.invariant.0 (omega arith)
+returns c = sifted_all c.loop-number.invariant.2 c.loop-number.invariant.0 (omega arith)

@@ -4,5 +4,5 @@ use Rattle.differing.specs.Batches.{classes_most}
 use Rattle.differing.specs.Laws.Batches.{Sifted}
 use Rattle.differing.proofs.twice.none_twice.Given as goal
 
-abbrev pub invariant-loop-c : goal.invariant-loop-c
-invariant-loop-c l = (0 < l.classes) × (l.classes ≤ classes_most) × Sifted l.n l.count l.c l.classes l.initial.frag l.frag l.held
+abbrev pub invariant-loop-number : goal.invariant-loop-number
+invariant-loop-number l = (0 < l.classes) × (l.classes ≤ classes_most) × Sifted l.n l.count l.number l.classes l.initial.frag l.frag l.held

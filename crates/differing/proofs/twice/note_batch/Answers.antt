@@ -1,8 +1,9 @@
 -- `differing::twice::note_batch` meets its contract: the words of the class so far are noted, and each finds an empty slot.
 -- Assumes nothing.
 use Prim.Native.Nat.{◌<◌}
-use mathlib.Core.Path.{◌≡◌, ◌∙◌}
+use mathlib.Core.Path.{◌≡◌, sym, ◌∙◌}
 use native.Mathlib.Omega.{arith}
+use Rattle.std.proofs.lemmas.Bool.{eqb-false}
 use Rattle.index.specs.Laws.Index.{outside_none, outside_set}
 use Rattle.differing.specs.Laws.Batches.{batch_none, batch_pass, batch_full, batch_twice, batch_more, batches_stop, batches_twice}
 use Rattle.differing.proofs.twice.note_batch.Goals as goal
@@ -16,13 +17,13 @@ offset_bounds-held-i c = omega (arith, c.requires.there)
 pub bounds-held-i : goal.bounds-held-i
 bounds-held-i c = omega (arith, c.requires.there)
 
-pub class_of-requires : goal.class_of-requires
-class_of-requires c = c.requires.few_classes
+pub has-requires : goal.has-requires
+has-requires c = c.requires.few_classes
 
-pub loop-i-preserved-then-class_of-c : goal.loop-i-preserved-then-class_of-c
-loop-i-preserved-then-class_of-c c =
+pub loop-i-preserved-then-not-has : goal.loop-i-preserved-then-not-has
+loop-i-preserved-then-not-has c =
     let l = c.loop-i in
-    (batch_pass l.invariant.0 (λ m. c.if-class_of-c.true (c.class_of.ensures ∙ m)), l.invariant.1)
+    (batch_pass l.invariant.0 (eqb-false _ _ (sym c.has.ensures ∙ c.if-not-has.true)), l.invariant.1)
 
 pub overflow_cast-size : goal.overflow_cast-size
 overflow_cast-size c = omega (arith, c.requires.slots.few_slots)

@@ -4,4 +4,4 @@ use Rattle.index.specs.Index.{Outside}
 use Rattle.differing.proofs.twice.note_batch.Given as goal
 
 abbrev pub invariant-loop-i : goal.invariant-loop-i
-invariant-loop-i l = Batch l.at l.size l.from l.i l.c l.classes l.frag l.held × Outside l.at l.size l.initial.frag l.frag
+invariant-loop-i l = Batch l.at l.size l.from l.i l.c.number l.c.of l.frag l.held × Outside l.at l.size l.initial.frag l.frag

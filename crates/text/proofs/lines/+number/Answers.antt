@@ -1,31 +1,12 @@
 -- `text::lines::number` meets its contract.
 -- Assumes nothing.
-use borrow.Author.Rules.{rules}
 use native.Mathlib.Omega.{arith}
 use mathlib.Core.Path.{sym}
 use Rattle.text.specs.Laws.Put.{put_is, put_then, decimal_last, decimal_more, decimal_end}
 use Rattle.text.proofs.lines.+number.Goals as goal
 
-pub overflow_add-x : goal.overflow_add-x
-overflow_add-x t c = search rules
-
-pub overflow_cast-x : goal.overflow_cast-x
-overflow_cast-x t c = search rules
-
-pub byte-requires : goal.byte-requires
-byte-requires t c = search rules
-
 pub returns-then-x-lt10 : goal.returns-then-x-lt10
 returns-then-x-lt10 t c = put_is (sym (decimal_last _ (omega arith))) c.byte.ensures
-
-pub number-end-requires : goal.number-end-requires
-number-end-requires t c = (omega arith, omega arith)
-
-pub overflow_add-x-2 : goal.overflow_add-x-2
-overflow_add-x-2 t c = search rules
-
-pub overflow_cast-x-2 : goal.overflow_cast-x-2
-overflow_cast-x-2 t c = search rules
 
 pub byte-requires-2 : goal.byte-requires-2
 byte-requires-2 t c = omega (arith, decimal_end _ c.number-end.ensures (omega arith))

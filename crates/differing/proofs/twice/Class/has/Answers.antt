@@ -1,11 +1,11 @@
--- `differing::twice::class_of` meets its contract: the product fits.
+-- `differing::twice::Class::has` meets its contract: the product fits.
 -- Assumes nothing.
 use Prim.Native.Nat.{◌*◌, ◌%◌, ◌≤◌}
 use mathlib.Core.Path.{refl}
 use native.Mathlib.Omega.{arith}
 use native.Mathlib.Nat.{mul-le-mul}
 use Rattle.differing.specs.Batches.{class_of}
-use Rattle.differing.proofs.twice.class_of.Goals as goal
+use Rattle.differing.proofs.twice.Class.has.Goals as goal
 
 pub overflow_mul-result : goal.overflow_mul-result
 overflow_mul-result c =
