@@ -4,7 +4,7 @@ use Rattle.std.specs.Prelude.{ℕ, zero, suc, List, Result, Ok, Err, ◌≡◌, 
 use Rattle.std.proofs.Common.{sym, ap, ◌∙◌, arith}
 use Rattle.base.specs.Answer.{Answer, gives, refuses}
 use Rattle.numbers.specs.Number.{Numeral, Wrote}
-use Rattle.numbers.specs.Answers.{number_of, refused, told, told_end, wrote}
+use Rattle.numbers.specs.Answers.{number_of, due, refused, told, told_end, wrote}
 use Rattle.numbers.specs.declared.Refusal.{Refusal}
 use Rattle.numbers.specs.declared.Why.{Why}
 use Rattle.numbers.specs.declared.Why.TheVariants.{Fragments, Room, Short, NoFragment, Same, Stage, Form, Unfinished, Differs, Parents, Tables, Entries}
@@ -78,6 +78,13 @@ number_some Differs e = omega arith
 number_some Parents e = omega arith
 number_some Tables e = omega arith
 number_some Entries e = omega arith
+
+-- A call that answers which refusal is due, if any.
+pub due_once : (a b : Result (Unit {0}) Why) → due a ≡ due b → a ≡ b
+due_once (Ok x) (Ok y) e = refl
+due_once (Ok x) (Err w) e = absurd (number_some w (sym e))
+due_once (Err v) (Ok y) e = absurd (number_some v e)
+due_once (Err v) (Err w) e = ap Err (number_once v w e)
 
 -- Only one refusal has number 8.
 pub unfinished_only : (w : Why) → number_of w ≡ 8 → w ≡ Unfinished
