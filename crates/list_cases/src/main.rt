@@ -2,7 +2,7 @@
 // and what was got. What is expected is worked out by hand from document 01.
 #![tactic(auto)]
 
-use numbers::{Refusal, Why};
+use numbers::Refusal;
 use std::io;
 
 fn text(rt: &impl Print, s: &str) -> io::Result<()> {
@@ -43,6 +43,10 @@ fn words(rt: &impl Print, s: &[u32]) -> io::Result<()> {
         word(rt, w)?;
     }
     Ok(())
+}
+
+fn refusal(number: u32, place: usize) -> Refusal {
+    Refusal { number, place }
 }
 
 fn show_refusal(rt: &impl Print, r: Refusal) -> io::Result<()> {
@@ -93,13 +97,13 @@ fn show_listed(
 fn show_written(
     rt: &impl Print,
     label: &str,
-    w: Result<usize, Why>,
+    w: Result<usize, Refusal>,
     after: &[u8],
 ) -> io::Result<()> {
     text(rt, label)?;
     match w {
         Ok(end) => labelled(rt, " end ", end as u64),
-        Err(why) => show_refusal(rt, Refusal::from(why)),
+        Err(r) => show_refusal(rt, r),
     }?;
     listing(rt, ",", after)
 }
@@ -128,8 +132,14 @@ fn scan_case(
     scanned(rt, 4, entries, block, expected)
 }
 
-fn bad_scan(rt: &impl Print, entries: u32, block: &[u8], why: Why, place: usize) -> io::Result<()> {
-    scan_case(rt, entries, block, Err(why.at(place)))
+fn bad_scan(
+    rt: &impl Print,
+    entries: u32,
+    block: &[u8],
+    number: u32,
+    place: usize,
+) -> io::Result<()> {
+    scan_case(rt, entries, block, Err(refusal(number, place)))
 }
 
 // A scan with another n.
@@ -170,8 +180,8 @@ fn link_case(
     linked(rt, 4, entries, block, at, expected)
 }
 
-fn bad_link(rt: &impl Print, entries: u32, block: &[u8], at: usize, why: Why) -> io::Result<()> {
-    link_case(rt, entries, block, at, Err(why.at(at)))
+fn bad_link(rt: &impl Print, entries: u32, block: &[u8], at: usize, number: u32) -> io::Result<()> {
+    link_case(rt, entries, block, at, Err(refusal(number, at)))
 }
 
 // A link with another n.
@@ -197,8 +207,8 @@ fn list_case(
     println!(rt)
 }
 
-fn bad_list(rt: &impl Print, file: &[u8], why: Why, place: usize) -> io::Result<()> {
-    list_case(rt, file, Err(why.at(place)))
+fn bad_list(rt: &impl Print, file: &[u8], number: u32, place: usize) -> io::Result<()> {
+    list_case(rt, file, Err(refusal(number, place)))
 }
 
 fn cut_case(rt: &impl Print, part: &[u8], expected: usize) -> io::Result<()> {
@@ -214,7 +224,7 @@ fn write_case(
     n: u32,
     links: &[u32],
     room: usize,
-    expected: Result<usize, Why>,
+    expected: Result<usize, Refusal>,
     after: &[u8],
 ) -> io::Result<()> {
     let mut buffer = [170u8; 8];
@@ -235,103 +245,103 @@ fn write_into(
 ) -> io::Result<()> {
     if room <= buffer.len() {
         let w = writing::write_list(n, links, &mut buffer[..room]);
-        show_written(rt, ", got", w, &buffer[..room])?;
+        show_written(rt, ", got", w.map_err(Refusal::from), &buffer[..room])?;
     }
     Ok(())
 }
 
-fn bad_write(rt: &impl Print, n: u32, links: &[u32], why: Why) -> io::Result<()> {
-    write_case(rt, n, links, 2, Err(why), b"\xaa\xaa")
+fn bad_write(rt: &impl Print, n: u32, links: &[u32], number: u32) -> io::Result<()> {
+    write_case(rt, n, links, 2, Err(refusal(number, 0)), b"\xaa\xaa")
 }
 
 // Document 01, with n = 4: 0-4 gives 4, 9-9 gives 4, 2-2 gives 5.
 fn known_scans(rt: &impl Print) -> io::Result<()> {
-    bad_scan(rt, 0, b"\x00\x04", Why::NoFragment, 0)?;
-    bad_scan(rt, 0, b"\x09\x09", Why::NoFragment, 0)?;
-    bad_scan(rt, 0, b"\x02\x02", Why::Same, 0)?;
-    bad_scan(rt, 0, b"\x04\x00", Why::NoFragment, 0)
+    bad_scan(rt, 0, b"\x00\x04", 4, 0)?;
+    bad_scan(rt, 0, b"\x09\x09", 4, 0)?;
+    bad_scan(rt, 0, b"\x02\x02", 5, 0)?;
+    bad_scan(rt, 0, b"\x04\x00", 4, 0)
 }
 
 fn least_scans(rt: &impl Print) -> io::Result<()> {
     scan_case(rt, 0, b"", Ok(0))?;
-    bad_scan(rt, 0, b"\x01", Why::Unfinished, 0)?;
+    bad_scan(rt, 0, b"\x01", 8, 0)?;
     scan_case(rt, 0, b"\x00\x01", Ok(1))?;
     scan_case(rt, 0, b"\x03\x00\x00\x03\x00\x03", Ok(3))
 }
 
 // Each refusal at the first, the second and the last of three links.
 fn far_scans(rt: &impl Print) -> io::Result<()> {
-    bad_scan(rt, 0, b"\x00\x04\x01\x02\x02\x03", Why::NoFragment, 0)?;
-    bad_scan(rt, 0, b"\x00\x01\x00\x04\x02\x03", Why::NoFragment, 2)?;
-    bad_scan(rt, 0, b"\x00\x01\x01\x02\x00\x04", Why::NoFragment, 4)
+    bad_scan(rt, 0, b"\x00\x04\x01\x02\x02\x03", 4, 0)?;
+    bad_scan(rt, 0, b"\x00\x01\x00\x04\x02\x03", 4, 2)?;
+    bad_scan(rt, 0, b"\x00\x01\x01\x02\x00\x04", 4, 4)
 }
 
 fn same_scans(rt: &impl Print) -> io::Result<()> {
-    bad_scan(rt, 0, b"\x02\x02\x01\x02\x02\x03", Why::Same, 0)?;
-    bad_scan(rt, 0, b"\x00\x01\x02\x02\x02\x03", Why::Same, 2)?;
-    bad_scan(rt, 0, b"\x00\x01\x01\x02\x02\x02", Why::Same, 4)
+    bad_scan(rt, 0, b"\x02\x02\x01\x02\x02\x03", 5, 0)?;
+    bad_scan(rt, 0, b"\x00\x01\x02\x02\x02\x03", 5, 2)?;
+    bad_scan(rt, 0, b"\x00\x01\x01\x02\x02\x02", 5, 4)
 }
 
 fn long_scans(rt: &impl Print) -> io::Result<()> {
-    bad_scan(rt, 0, b"\x80\x00\x01\x02\x02\x03", Why::Form, 0)?;
-    bad_scan(rt, 0, b"\x00\x01\x80\x00\x02\x03", Why::Form, 2)?;
-    bad_scan(rt, 0, b"\x00\x01\x01\x02\x02\x80\x00", Why::Form, 4)?;
-    bad_scan(rt, 0, b"\x00\x01\x80\x80\x80\x01\x02", Why::Form, 2)
+    bad_scan(rt, 0, b"\x80\x00\x01\x02\x02\x03", 7, 0)?;
+    bad_scan(rt, 0, b"\x00\x01\x80\x00\x02\x03", 7, 2)?;
+    bad_scan(rt, 0, b"\x00\x01\x01\x02\x02\x80\x00", 7, 4)?;
+    bad_scan(rt, 0, b"\x00\x01\x80\x80\x80\x01\x02", 7, 2)
 }
 
 fn ended_scans(rt: &impl Print) -> io::Result<()> {
-    bad_scan(rt, 0, b"\x00\x80", Why::Unfinished, 0)?;
-    bad_scan(rt, 0, b"\x00\x01\x01", Why::Unfinished, 2)?;
-    bad_scan(rt, 0, b"\x00\x01\x80", Why::Unfinished, 2)?;
-    bad_scan(rt, 0, b"\x00\x01\x01\x02\x02", Why::Unfinished, 4)?;
-    bad_scan(rt, 0, b"\x00\x01\x01\x02\x02\x80\x80", Why::Unfinished, 4)
+    bad_scan(rt, 0, b"\x00\x80", 8, 0)?;
+    bad_scan(rt, 0, b"\x00\x01\x01", 8, 2)?;
+    bad_scan(rt, 0, b"\x00\x01\x80", 8, 2)?;
+    bad_scan(rt, 0, b"\x00\x01\x01\x02\x02", 8, 4)?;
+    bad_scan(rt, 0, b"\x00\x01\x01\x02\x02\x80\x80", 8, 4)
 }
 
 // Entry number 16,777,215 is the last.
 fn full_scans(rt: &impl Print) -> io::Result<()> {
     scan_case(rt, 16777215, b"", Ok(0))?;
     scan_case(rt, 16777214, b"\x00\x01", Ok(1))?;
-    bad_scan(rt, 16777215, b"\x00\x01\x01\x02\x02\x03", Why::Entries, 0)?;
-    bad_scan(rt, 16777214, b"\x00\x01\x01\x02\x02\x03", Why::Entries, 2)?;
-    bad_scan(rt, 16777213, b"\x00\x01\x01\x02\x02\x03", Why::Entries, 4)
+    bad_scan(rt, 16777215, b"\x00\x01\x01\x02\x02\x03", 12, 0)?;
+    bad_scan(rt, 16777214, b"\x00\x01\x01\x02\x02\x03", 12, 2)?;
+    bad_scan(rt, 16777213, b"\x00\x01\x01\x02\x02\x03", 12, 4)
 }
 
 // 12 comes after the other refusals of a link, and 7 and 8 before 4.
 fn ordered_scans(rt: &impl Print) -> io::Result<()> {
-    bad_scan(rt, 4294967295, b"\x00\x01", Why::Entries, 0)?;
-    bad_scan(rt, 16777215, b"\x00\x04", Why::NoFragment, 0)?;
-    bad_scan(rt, 16777215, b"\x02\x02", Why::Same, 0)?;
-    bad_scan(rt, 0, b"\x09\x80\x00", Why::Form, 0)?;
-    bad_scan(rt, 0, b"\x09", Why::Unfinished, 0)
+    bad_scan(rt, 4294967295, b"\x00\x01", 12, 0)?;
+    bad_scan(rt, 16777215, b"\x00\x04", 4, 0)?;
+    bad_scan(rt, 16777215, b"\x02\x02", 5, 0)?;
+    bad_scan(rt, 0, b"\x09\x80\x00", 7, 0)?;
+    bad_scan(rt, 0, b"\x09", 8, 0)
 }
 
 // n is 1 to 32,768, and 1 comes before the links; 32,767 is FF FF 01.
 fn sized_scans(rt: &impl Print) -> io::Result<()> {
-    sized_scan(rt, 0, b"", Err(Why::Fragments.at(0)))?;
-    sized_scan(rt, 0, b"\x00\x01", Err(Why::Fragments.at(0)))?;
+    sized_scan(rt, 0, b"", Err(refusal(1, 0)))?;
+    sized_scan(rt, 0, b"\x00\x01", Err(refusal(1, 0)))?;
     sized_scan(rt, 32768, b"\x00\xff\xff\x01", Ok(1))?;
-    sized_scan(rt, 32769, b"\x00\xff\xff\x01", Err(Why::Fragments.at(0)))?;
-    sized_scan(rt, 32769, b"\x00\x01\x80\x00", Err(Why::Fragments.at(0)))
+    sized_scan(rt, 32769, b"\x00\xff\xff\x01", Err(refusal(1, 0)))?;
+    sized_scan(rt, 32769, b"\x00\x01\x80\x00", Err(refusal(1, 0)))
 }
 
 fn known_links(rt: &impl Print) -> io::Result<()> {
     link_case(rt, 0, b"\x00\x01\x02\x03", 0, Ok((0, 1, 2)))?;
     link_case(rt, 16777214, b"\x00\x01\x02\x03", 2, Ok((2, 3, 4)))?;
-    bad_link(rt, 16777215, b"\x00\x01\x02\x03", 2, Why::Entries)?;
+    bad_link(rt, 16777215, b"\x00\x01\x02\x03", 2, 12)?;
     link_case(rt, 0, b"\x00\x01\x02\x03", 1, Ok((1, 2, 3)))
 }
 
 fn ended_links(rt: &impl Print) -> io::Result<()> {
-    bad_link(rt, 0, b"\x00\x01\x02\x03", 3, Why::Unfinished)?;
-    bad_link(rt, 0, b"\x00\x01\x02\x03", 4, Why::Unfinished)?;
-    bad_link(rt, 0, b"\x00\x01\x02\x03", 9, Why::Unfinished)
+    bad_link(rt, 0, b"\x00\x01\x02\x03", 3, 8)?;
+    bad_link(rt, 0, b"\x00\x01\x02\x03", 4, 8)?;
+    bad_link(rt, 0, b"\x00\x01\x02\x03", 9, 8)
 }
 
 fn sized_links(rt: &impl Print) -> io::Result<()> {
-    sized_link(rt, 0, b"\x00\x01", 0, Err(Why::Fragments.at(0)))?;
+    sized_link(rt, 0, b"\x00\x01", 0, Err(refusal(1, 0)))?;
     sized_link(rt, 32768, b"\x00\xff\xff\x01", 0, Ok((0, 32767, 4)))?;
-    sized_link(rt, 32769, b"\x00\x01\x02\x03", 2, Err(Why::Fragments.at(0)))?;
-    sized_link(rt, 32769, b"\x00\x01", 9, Err(Why::Fragments.at(0)))
+    sized_link(rt, 32769, b"\x00\x01\x02\x03", 2, Err(refusal(1, 0)))?;
+    sized_link(rt, 32769, b"\x00\x01", 9, Err(refusal(1, 0)))
 }
 
 // The first is the list of document 01's program case; 32,768 is 80 80 02, and 32,769 is 81 80 02.
@@ -342,17 +352,17 @@ fn known_lists(rt: &impl Print) -> io::Result<()> {
 }
 
 fn bad_headers(rt: &impl Print) -> io::Result<()> {
-    bad_list(rt, b"\x81\x80\x02", Why::Fragments, 0)?;
-    bad_list(rt, b"\x00", Why::Fragments, 0)?;
-    bad_list(rt, b"", Why::Unfinished, 0)?;
-    bad_list(rt, b"\x80\x00", Why::Form, 0)
+    bad_list(rt, b"\x81\x80\x02", 1, 0)?;
+    bad_list(rt, b"\x00", 1, 0)?;
+    bad_list(rt, b"", 8, 0)?;
+    bad_list(rt, b"\x80\x00", 7, 0)
 }
 
 fn bad_lists(rt: &impl Print) -> io::Result<()> {
-    bad_list(rt, b"\x04\x00\x01\x02", Why::Unfinished, 3)?;
-    bad_list(rt, b"\x04\x00\x04", Why::NoFragment, 1)?;
-    bad_list(rt, b"\x04\x00\x01\x02\x02", Why::Same, 3)?;
-    bad_list(rt, b"\x80\x01\x00\x80\x01", Why::NoFragment, 2)
+    bad_list(rt, b"\x04\x00\x01\x02", 8, 3)?;
+    bad_list(rt, b"\x04\x00\x04", 4, 1)?;
+    bad_list(rt, b"\x04\x00\x01\x02\x02", 5, 3)?;
+    bad_list(rt, b"\x80\x01\x00\x80\x01", 4, 2)
 }
 
 fn least_cuts(rt: &impl Print) -> io::Result<()> {
@@ -381,7 +391,7 @@ fn least_writes(rt: &impl Print) -> io::Result<()> {
 
 fn known_writes(rt: &impl Print) -> io::Result<()> {
     let two = [0u32, 1, 0, 2];
-    write_case(rt, 4, &two, 4, Err(Why::Short), b"\xaa\xaa\xaa\xaa")?;
+    write_case(rt, 4, &two, 4, Err(refusal(3, 0)), b"\xaa\xaa\xaa\xaa")?;
     let wide = [32767u32, 0];
     write_case(
         rt,
@@ -396,20 +406,20 @@ fn known_writes(rt: &impl Print) -> io::Result<()> {
 // In the order of the tests: 1, then 4 and 5 by first bad link, then 8, then 3.
 fn bad_writes(rt: &impl Print) -> io::Result<()> {
     let far = [0u32, 4, 2, 2, 1];
-    bad_write(rt, 0, &far, Why::Fragments)?;
-    bad_write(rt, 32769, &far, Why::Fragments)?;
-    bad_write(rt, 4, &far, Why::NoFragment)?;
+    bad_write(rt, 0, &far, 1)?;
+    bad_write(rt, 32769, &far, 1)?;
+    bad_write(rt, 4, &far, 4)?;
     let same = [2u32, 2, 0, 4, 1];
-    bad_write(rt, 4, &same, Why::Same)
+    bad_write(rt, 4, &same, 5)
 }
 
 fn more_writes(rt: &impl Print) -> io::Result<()> {
     let nine = [9u32, 9];
-    bad_write(rt, 4, &nine, Why::NoFragment)?;
+    bad_write(rt, 4, &nine, 4)?;
     let odd = [0u32, 1, 4];
-    bad_write(rt, 4, &odd, Why::Unfinished)?;
+    bad_write(rt, 4, &odd, 8)?;
     let one = [0u32, 1];
-    bad_write(rt, 4, &one, Why::Short)
+    bad_write(rt, 4, &one, 3)
 }
 
 fn scans(rt: &impl Print) -> io::Result<()> {
