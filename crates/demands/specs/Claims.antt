@@ -56,7 +56,7 @@ pub record NotesLost (s : State) (f h : List ℕ) (s' : State) (f' h' : List ℕ
   pub frag_after : f' ≡ frag_of Built s.n (clear_notes s.n (tables_in s f h)) f
   pub held_after : h' ≡ h
 
--- (Ok false) call at a moment is refused with x.
+-- No call at a moment is refused with x.
 pub record Never (m : Moment) (x : ℕ) : Type 0 where
   pub take_never : (block : List ℕ) (a : TakeAt m block) (r : Refusal) → a.answer ≡ Err r → r.number ≢ x
   pub close_never : (a : CloseAt m) (r : Refusal) → a.answer ≡ Err r → r.number ≢ x

@@ -165,7 +165,7 @@ module _ {s : State} {x : Left Ending} (a : Closes s x) where
           let q : r.place ≡ place = cc in
           λ i. Err (record { number = n i; place = q i })
 
--- (Ok false) plain refusal has the number 9: it is told by False.
+-- No plain refusal has the number 9: it is told by False.
 pub nine_false : (s : State) (f h : List ℕ) (a : CloseAnswer s f h) → (close_call s f h).answer ≡ refuses 9 0 → T (ends_false a.answer)
 unfolding close_call
 nine_false s f h a e =
