@@ -4,7 +4,7 @@
 
 ghost use Rattle.std.specs.Prelude.{◌≤◌};
 
-use numbers::{Refusal, Why};
+use numbers::Refusal;
 use std::io;
 
 const TRIALS: usize = 20000;
@@ -58,16 +58,20 @@ fn count(n: u32) -> u32 {
     if n < 1000000 { n + 1 } else { n }
 }
 
-// A link's second number is read.
-fn link(r: Reading, n: u32, entries: u32, value: u64, after: usize) -> Result<Reading, Why> {
+fn refusal(number: u32, place: usize) -> Refusal {
+    Refusal { number, place }
+}
+
+// A link's second number is read; or the number of what is wrong with it.
+fn link(r: Reading, n: u32, entries: u32, value: u64, after: usize) -> Result<Reading, u32> {
     if r.first >= n as u64 || value >= n as u64 {
-        return Err(Why::NoFragment);
+        return Err(4);
     }
     if r.first == value {
-        return Err(Why::Same);
+        return Err(5);
     }
     if entries as u64 + r.links as u64 >= 16777215 {
-        return Err(Why::Entries);
+        return Err(12);
     }
     Ok(Reading {
         value: 0,
@@ -80,9 +84,9 @@ fn link(r: Reading, n: u32, entries: u32, value: u64, after: usize) -> Result<Re
 }
 
 // A number's last byte is read.
-fn last(r: Reading, n: u32, entries: u32, byte: u8, after: usize) -> Result<Reading, Why> {
+fn last(r: Reading, n: u32, entries: u32, byte: u8, after: usize) -> Result<Reading, u32> {
     if byte == 0 && r.groups > 0 {
-        return Err(Why::Form);
+        return Err(7);
     }
     let value = r.value % 16777216 + scaled(byte, r.groups);
     if r.ends == 1 {
@@ -97,12 +101,12 @@ fn last(r: Reading, n: u32, entries: u32, byte: u8, after: usize) -> Result<Read
     })
 }
 
-fn step(r: Reading, n: u32, entries: u32, byte: u8, after: usize) -> Result<Reading, Why> {
+fn step(r: Reading, n: u32, entries: u32, byte: u8, after: usize) -> Result<Reading, u32> {
     if byte < 128 {
         return last(r, n, entries, byte, after);
     }
     if r.groups >= 2 {
-        return Err(Why::Form);
+        return Err(7);
     }
     Ok(Reading {
         value: r.value % 16777216 + scaled(byte, r.groups),
@@ -123,11 +127,11 @@ fn second(n: u32, entries: u32, s: &[u8]) -> Result<u32, Refusal> {
     for (i, &b) in s.iter().enumerate() {
         match step(r, n, entries, b, i + 1) {
             Ok(further) => r = further,
-            Err(why) => return Err(why.at(r.start)),
+            Err(number) => return Err(refusal(number, r.start)),
         }
     }
     if r.ends == 1 || r.groups > 0 {
-        return Err(Why::Unfinished.at(r.start));
+        return Err(refusal(8, r.start));
     }
     Ok(r.links)
 }
