@@ -2,6 +2,7 @@
 #![tactic(auto)]
 
 mod refusals;
+mod sections;
 mod test;
 mod turns;
 

@@ -1,8 +1,8 @@
 // The test of the tables, refusal 11, but for the held links: what the state says, one pass over the fragments, and the words that must be 0.
-ghost use Rattle.std.specs.Prelude.{◌≤◌, ◌≡◌, length};
+ghost use Rattle.std.specs.Prelude.{◌*◌, ◌≤◌, ◌≡◌, length};
 ghost use Rattle.rules.specs.Search.{count, every};
 ghost use Rattle.rules.specs.Tables.{placed as is_placed};
-ghost use Rattle.state.specs.Layout.{forest_in};
+ghost use Rattle.state.specs.Layout.{words, forest_in};
 ghost use Rattle.state.specs.Call.{fragments_most, room_most};
 ghost use Rattle.state.specs.Test.{is_numbered, stands_at, clear_at, asked as askedIf};
 ghost use Rattle.state.proofs.Laws.Bounds.{Bounds};
@@ -144,7 +144,7 @@ fn stage_holds(s: State, placed: usize) -> bool
 
 // Scratch is 0, and the forest's numbers are those of the forest where it is numbered.
 fn rest_fits(frag: &[u32], n: usize, stage: Stage) -> bool
-    requires { n ≤ fragments_most }
+    requires { words * n ≤ length frag.now }
     ensures { result ≡ rest_fits n stage frag.now }
 {
     if !reads(stage) {

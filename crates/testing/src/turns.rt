@@ -1,76 +1,78 @@
 // The test of the numbers of the forest: each fragment's words against those of its parent, of its first child and of the next one beside it.
-ghost use Rattle.std.specs.Prelude.{◌≡◌};
+ghost use Rattle.std.specs.Prelude.{◌≡◌, ◌*◌, ◌≤◌, length};
 ghost use Rattle.rules.specs.Search.{every};
-ghost use Rattle.state.specs.Layout.{forest_in};
+ghost use Rattle.state.specs.Layout.{words, forest_in};
 ghost use Rattle.testing.specs.Test.{under_at, comes_at, rises_to, root_fits, child_fits, words_fit};
 
-use tables::{end_at, parent_at, turn_at, whose_at};
+use crate::sections::Sections;
 
 // Whether the fragment whose turn is i has the parent p.
-fn is_under(frag: &[u32], n: usize, p: usize, i: usize) -> bool
-    ensures { result ≡ under_at n (forest_in n frag.now) frag.now p i }
+fn is_under(t: Sections, p: usize, i: usize) -> bool
+    ensures { result ≡ under_at t.entry.n (forest_in t.entry.n t.entry.frag.now) t.entry.frag.now p i }
 {
-    if n <= i {
+    if t.n <= i {
         return false;
     }
-    let w = whose_at(frag, n, i);
-    w < n && parent_at(frag, n, w) == p
+    let w = t.whose_at(i);
+    w < t.n && t.parent_at(w) == p
 }
 
 // v comes at its own turn, and what stands below it ends there or begins with a child.
-fn comes(frag: &[u32], n: usize, v: usize) -> bool
-    ensures { result ≡ comes_at n (forest_in n frag.now) frag.now v }
+fn comes(t: Sections, v: usize) -> bool
+    ensures { result ≡ comes_at t.entry.n (forest_in t.entry.n t.entry.frag.now) t.entry.frag.now v }
 {
-    let turn = turn_at(frag, n, v);
-    if n <= turn {
+    let turn = t.turn_at(v);
+    if t.n <= turn {
         return false;
     }
-    if whose_at(frag, n, turn) != v {
+    if t.whose_at(turn) != v {
         return false;
     }
-    let end = end_at(frag, n, v);
-    turn < end && (end == turn + 1 || is_under(frag, n, v, turn + 1))
+    let end = t.end_at(v);
+    turn < end && (end == turn + 1 || is_under(t, v, turn + 1))
 }
 
 // Whether the fragment whose turn is i is greater than v and has the parent p.
-fn rises(frag: &[u32], n: usize, v: usize, p: usize, i: usize) -> bool
-    ensures { result ≡ rises_to n (forest_in n frag.now) frag.now v p i }
+fn rises(t: Sections, v: usize, p: usize, i: usize) -> bool
+    ensures { result ≡ rises_to t.entry.n (forest_in t.entry.n t.entry.frag.now) t.entry.frag.now v p i }
 {
-    v < whose_at(frag, n, i) && is_under(frag, n, p, i)
+    v < t.whose_at(i) && is_under(t, p, i)
 }
 
-fn root_fits(frag: &[u32], n: usize, v: usize) -> bool
-    ensures { result ≡ root_fits n (forest_in n frag.now) frag.now v }
+fn root_fits(t: Sections, v: usize) -> bool
+    ensures { result ≡ root_fits t.entry.n (forest_in t.entry.n t.entry.frag.now) t.entry.frag.now v }
 {
-    let end = end_at(frag, n, v);
-    end == n || rises(frag, n, v, whose_at(frag, n, end), end)
+    let end = t.end_at(v);
+    end == t.n || rises(t, v, t.whose_at(end), end)
 }
 
-fn child_fits(frag: &[u32], n: usize, p: usize, v: usize) -> bool
-    ensures { result ≡ child_fits n (forest_in n frag.now) frag.now p v }
+fn child_fits(t: Sections, p: usize, v: usize) -> bool
+    ensures { result ≡ child_fits t.entry.n (forest_in t.entry.n t.entry.frag.now) t.entry.frag.now p v }
 {
-    if turn_at(frag, n, v) <= turn_at(frag, n, p) {
+    if t.turn_at(v) <= t.turn_at(p) {
         return false;
     }
-    let end = end_at(frag, n, v);
-    end == end_at(frag, n, p) || rises(frag, n, v, p, end)
+    let end = t.end_at(v);
+    end == t.end_at(p) || rises(t, v, p, end)
 }
 
-fn words_fit(frag: &[u32], n: usize, v: usize) -> bool
-    ensures { result ≡ words_fit n (forest_in n frag.now) frag.now v }
+fn words_fit(t: Sections, v: usize) -> bool
+    ensures { result ≡ words_fit t.entry.n (forest_in t.entry.n t.entry.frag.now) t.entry.frag.now v }
 {
-    if !comes(frag, n, v) {
+    if !comes(t, v) {
         return false;
     }
-    let p = parent_at(frag, n, v);
+    let p = t.parent_at(v);
     if p == v {
-        return root_fits(frag, n, v);
+        return root_fits(t, v);
     }
-    child_fits(frag, n, p, v)
+    child_fits(t, p, v)
 }
 
 pub(crate) fn numbers_fit(frag: &[u32], n: usize) -> bool
+    requires { words * n ≤ length frag.now }
     ensures { result ≡ every (words_fit n (forest_in n frag.now) frag.now) n }
 {
-    (0..n).all(|v| words_fit(frag, n, v))
+    let t = Sections::of(frag, n);
+    (0..n).all(|v| words_fit(t, v))
 }

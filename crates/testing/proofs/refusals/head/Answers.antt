@@ -1,7 +1,6 @@
 -- `testing::refusals::head` meets its contract: each answer is a lemma of the ladder.
 -- Assumes nothing.
 use mathlib.Core.Path.{sym, ap, ◌∙◌}
-use native.Mathlib.Omega.{arith}
 use Rattle.std.proofs.lemmas.Result.{err_from_is_err_and}
 use Rattle.numbers.specs.Answers.{due}
 use Rattle.numbers.proofs.Unique.{number_some}

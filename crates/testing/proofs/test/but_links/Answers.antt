@@ -29,7 +29,7 @@ returns-then-not-zeros c =
     but_unused _ _ _ _ c.count_placed-placed.ensures (sym (c.if-not-counts_hold.false) ∙ c.counts_hold.ensures) (sym (c.if-not-stage_holds.false) ∙ c.stage_holds.ensures) (sym (c.if-not-fragments.false) ∙ c.fragments.ensures) (sym (c.if-not-zeros.true) ∙ c.zeros.ensures)
 
 pub rest_fits-requires : goal.rest_fits-requires
-rest_fits-requires c = c.requires.fragments
+rest_fits-requires c = c.requires.frag_long
 
 pub returns : goal.returns
 returns c =

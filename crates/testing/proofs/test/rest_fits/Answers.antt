@@ -1,24 +1,11 @@
 -- `testing::test::rest_fits` meets its contract: one law for each answer.
 -- Assumes nothing.
 use mathlib.Core.Path.{sym, ◌∙◌}
-use native.Mathlib.Omega.{arith}
 use Rattle.testing.specs.Laws.Turns.{rest_plain, rest_worked, rest_numbered}
 use Rattle.testing.proofs.test.rest_fits.Goals as goal
 
-pub overflow_mul-n : goal.overflow_mul-n
-overflow_mul-n c = let p = c.requires in omega (arith, p)
-
-pub overflow_mul-n-then-not-reads : goal.overflow_mul-n-then-not-reads
-overflow_mul-n-then-not-reads c = let p = c.requires in omega (arith, p)
-
 pub returns-then-not-reads : goal.returns-then-not-reads
 returns-then-not-reads c = rest_plain _ _ _ (sym c.reads.ensures ∙ c.if-not-reads.true) _ c.zeros.ensures
-
-pub overflow_mul-n-2 : goal.overflow_mul-n-2
-overflow_mul-n-2 c = let p = c.requires in omega (arith, p)
-
-pub overflow_mul-n-3 : goal.overflow_mul-n-3
-overflow_mul-n-3 c = let p = c.requires in omega (arith, p)
 
 pub returns-else-zeros : goal.returns-else-zeros
 returns-else-zeros c = c.if-zeros.false ∙ rest_worked _ _ _ (sym c.reads.ensures ∙ c.if-not-reads.false) (sym c.if-zeros.false ∙ c.zeros-2.ensures)

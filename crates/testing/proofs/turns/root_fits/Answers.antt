@@ -2,12 +2,12 @@
 -- Assumes nothing.
 use mathlib.Core.Path.{◌∙◌}
 use native.Mathlib.Omega.{arith}
-use borrow.Author.Tests.{eq-eqb}
+use Rattle.std.proofs.lemmas.Bool.Decides.{nat_tests}
 use Rattle.testing.specs.Laws.Turns.{root_last, root_next}
 use Rattle.testing.proofs.turns.root_fits.Goals as goal
 
-pub returns-then-end-n : goal.returns-then-end-n
-returns-then-end-n c = eq-eqb _ _ (omega arith) ∙ root_last _ _ _ _ _ c.end_at-end.ensures.says (omega arith)
+pub returns-then-end-t : goal.returns-then-end-t
+returns-then-end-t c = grind (arith, nat_tests) ∙ root_last _ _ _ _ _ c.end_at-end.ensures.says (omega arith)
 
-pub returns-else-end-n : goal.returns-else-end-n
-returns-else-end-n c = root_next _ _ _ _ _ c.end_at-end.ensures.says (omega arith) _ c.whose_at.ensures.says _ c.rises.ensures
+pub returns-else-end-t : goal.returns-else-end-t
+returns-else-end-t c = root_next _ _ _ _ _ c.end_at-end.ensures.says (omega arith) _ c.whose_at.ensures.says _ c.rises.ensures
